@@ -1,0 +1,6 @@
+pub mod Apart
+pub mod Holder
+pub mod Windows
+pub mod Ends
+pub mod Steps
+pub mod ByteMemory

@@ -1,0 +1,56 @@
+//! How a step and a run end.
+
+/// Why a step can't be done. The first number is pc.
+#[derive(Clone, Copy, Debug, PartialEq, Eq)]
+pub enum RunFault {
+    /// No executable word is at pc.
+    BadPc(u64),
+    /// The word, given second, is no instruction.
+    Illegal(u64, u32),
+    /// The word is EBREAK.
+    Break(u64),
+    /// The word is ECALL and x17, given second, is not 93.
+    BadCall(u64, u64),
+    /// The address of a load or a store, given second, is no multiple of its width.
+    Misaligned(u64, u64),
+    /// The address of a load or a store, given second, is at least 2^32.
+    BadAddress(u64, u64),
+    /// The target of a jump or a taken branch, given second, is no multiple of 4.
+    BadTarget(u64, u64),
+}
+
+/// What one step answers.
+#[derive(Clone, Copy, Debug, PartialEq, Eq)]
+pub enum StepAnswer {
+    /// The machine is in the next state.
+    Next,
+    /// ECALL with 93 in x17; nothing has changed.
+    Halt,
+    /// Nothing has changed.
+    Fault(RunFault),
+}
+
+/// What a run publishes: x10, and the 256 bytes of the output window at 0x5000_0000, both at the halt.
+#[derive(Clone, Copy, Debug, PartialEq, Eq)]
+pub struct Public {
+    pub exit: u64,
+    pub output: [u8; 256],
+}
+
+/// A run that halted: its number of steps, the halting one with them, and what it published.
+#[derive(Clone, Copy, Debug, PartialEq, Eq)]
+pub struct Ran {
+    pub steps: u32,
+    pub public: Public,
+}
+
+/// Why a whole run has no result.
+#[derive(Clone, Copy, Debug, PartialEq, Eq)]
+pub enum RunEnd {
+    /// A step faulted.
+    Fault(RunFault),
+    /// Each of so many first steps led on.
+    StepLimit(u32),
+    /// Memory was wanting.
+    NoMemory,
+}
