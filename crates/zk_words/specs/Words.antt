@@ -1,0 +1,17 @@
+-- Which words read as which command (docs/COMMANDS.md).
+use Rattle.std.specs.Prelude.{◌≡◌, ℕ, ◌<◌, ◌≤◌, ◌^◌, List, [], ◌∷◌, codes, decimal, map, string_bytes, String}
+use Rattle.std.specs.declared.alloc.Global.{Global}
+use Rattle.zk_words.specs.declared.command.Command.{Command}
+use Rattle.zk_words.specs.declared.command.Command.TheVariants.{Run}
+
+-- the bytes of each word
+abbrev pub texts : List (String Global) → List (List ℕ)
+texts words = map string_bytes words
+
+-- the text is this number, in decimal without a sign or a leading zero, and it lies in the range
+abbrev pub IsNumber : ℕ → ℕ → List ℕ → ℕ → Type 0
+IsNumber least end text n = (text ≡ decimal n) × (least ≤ n) × (n < end)
+
+-- the words read as the command
+abbrev pub Reads : List (List ℕ) → Command → Type 0
+Reads words (Run steps) = (elf : List ℕ) × (input : List ℕ) × (text : List ℕ) × (words ≡ codes "run" ∷ elf ∷ input ∷ text ∷ []) × IsNumber 1 (2 ^ 32) text steps

@@ -1,0 +1,111 @@
+//! The words of the command line.
+ghost use Rattle.std.specs.Prelude.{◌≡◌, ℕ, ◌+◌, ◌<◌, ◌≤◌, ◌^◌, IfSome, Some, decimal};
+ghost use Rattle.zk_words.specs.Words.{Reads, texts, IsNumber};
+ghost use Rattle.zk_words.specs.declared.command.Command.{Command};
+
+use itoa::Buffer;
+
+/// What the words ask for. A command's file names are the words at their places.
+#[derive(Clone, Copy, Debug, PartialEq, Eq)]
+pub enum Command {
+    /// `run ELF INPUT STEPS`
+    Run { steps: u32 },
+}
+
+// The number that the text is the decimal form of.
+fn number(text: &str) -> Option<u64>
+    ensures found { IfSome result (λ n. text.now ≡ decimal n) }
+    ensures only { (n : ℕ) → n < 2 ^ 64 → text.now ≡ decimal n → result ≡ Some n }
+{
+    let parsed = text.parse::<u64>();
+    match parsed {
+        Ok(n) => {
+            let mut buffer = Buffer::new();
+            if buffer.format(n) == text {
+                Some(n)
+            } else {
+                None
+            }
+        }
+        Err(_) => None,
+    }
+}
+
+// The same, where it lies from least to most.
+fn number_from(least: u32, most: u32, text: &str) -> Option<u32>
+    ensures found { IfSome result (IsNumber least (most + 1) text.now) }
+    ensures only { (n : ℕ) → IsNumber least (most + 1) text.now n → result ≡ Some n }
+{
+    match number(text) {
+        Some(n) if u64::from(least) <= n && n <= u64::from(most) => Some(n as u32),
+        _ => None,
+    }
+}
+
+/// The command that the words read as, if they read as one.
+pub fn read_words(words: &[String]) -> Option<Command>
+    ensures found { IfSome result (Reads (texts words.now)) }
+    ensures only { (c : Command) → Reads (texts words.now) c → result ≡ Some c }
+{
+    match words {
+        [name, _, _, steps] if name.as_str() == "run" => {
+            match number_from(1, u32::MAX, steps.as_str()) {
+                Some(steps) => Some(Command::Run { steps }),
+                None => None,
+            }
+        }
+        _ => None,
+    }
+}
+
+#[cfg(test)]
+mod tests {
+    use super::*;
+    use std::alloc::{AllocError, Global};
+    use std::test::Fail;
+
+    fn words(alloc: Global, line: &str) -> Result<Vec<String>, AllocError> {
+        let mut words = Vec::new(alloc);
+        for word in line.split('|') {
+            words.push(String::from_str(alloc, word)?)?;
+        }
+        Ok(words)
+    }
+
+    #[test]
+    fn a_command_has_its_words_and_no_others(rt: HostRuntime) -> Result<(), Fail> {
+        let alloc = rt.alloc();
+        for (line, steps) in [
+            ("run|a|b|3", 3),
+            ("run|||1", 1),
+            ("run|a b|c|4294967295", u32::MAX),
+        ] {
+            let words = words(alloc, line)?;
+            assert_eq!(rt;
+                read_words(&words),
+                Some(Command::Run { steps }),
+                "at {line}"
+            );
+        }
+        for line in [
+            "",
+            "run",
+            "run|a|b",
+            "run|a|b|3|x",
+            "RUN|a|b|3",
+            "run|a|b|0",
+            "run|a|b|03",
+            "run|a|b|+3",
+            "run|a|b|3 ",
+            "run|a|b|",
+            "run|a|b|4294967296",
+            "--help",
+            "run|a|b|0x3",
+            "run|a|b|-1",
+        ] {
+            let words = words(alloc, line)?;
+            assert_eq!(rt; read_words(&words), None, "at {line}");
+        }
+        Ok(())
+    }
+}

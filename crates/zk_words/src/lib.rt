@@ -1,0 +1,10 @@
+//! The words of the command line, the statuses that a command ends with, and the report lines of its refusals.
+#![tactic(auto)]
+
+mod command;
+mod line;
+mod status;
+
+pub use command::{Command, read_words};
+pub use line::status_line;
+pub use status::{Status, Which};
