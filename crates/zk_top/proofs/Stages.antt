@@ -1,0 +1,168 @@
+-- How the parts of a command join.
+use Rattle.std.proofs.Common.{rules, ◌≡◌, ◌⊎◌, inl, inr, ℕ, zero, suc, ◌<◌, ◌≤◌, ◌+◌, ◌-◌, ◌^◌, List, [], ◌∷◌, ◌++◌, length, take, min, Option, Some, None, Ok, Err, Result, Vec, Global, Bool, true, false, MatchBool, nat_le, refl, sym, ap, ◌∙◌, arith, subst, append_assoc, append-nil}
+use Rattle.std.proofs.Math.Seq.{take-length}
+use Rattle.host_io.specs.World.{World, Asked, Opened}
+use Rattle.host_io.specs.Calls.{HasReportedFront}
+use Rattle.rv_model.specs.Image.{Img}
+use Rattle.rv_model.specs.Run.{End, Halted, Faulted, Limited, end_within}
+use Rattle.elf_load.specs.declared.error.ElfErr.{ElfErr}
+use Rattle.zk_words.specs.Lines.{line_of}
+use Rattle.zk_words.specs.declared.status.Which.{Which}
+use Rattle.zk_words.specs.declared.status.Which.TheVariants as which_file
+use Rattle.zk_words.specs.declared.status.Status.{Status}
+use Rattle.zk_words.specs.declared.status.Status.TheVariants as statuses
+use Rattle.zk_top.specs.declared.files.FileErr.{FileErr}
+use Rattle.zk_top.specs.declared.files.FileErr.TheVariants as errors
+use Rattle.zk_top.specs.Outcome.{Outcome, Contents, reporting, refused, unanswered, of_run, with_input, WithFile, WithImage, IsRunOutcome}
+use Rattle.zk_top.specs.Ends.{Early, Ends}
+use Rattle.zk_top.specs.Parts.{Asks, AsksAtMost, IsNotRead, IsDecided, RunLeads, Stops, Leads, IsOnlyImage, IsOnlyRefusal, IsRefusal, stop_of}
+
+-- nothing was asked for
+pub asks_nothing : (w : World) → Asks [] w w
+asks_nothing w = record { asked = sym (append-nil w.asked); reported = refl; contents = refl }
+
+-- names after names
+pub asks_both : (xs ys : List Asked) (old mid new : World) → Asks xs old mid → Asks ys mid new → Asks (xs ++ ys) old new
+asks_both xs ys old mid new first second = record {
+  asked = second.asked ∙ ap (λ (ns : List Asked). ns ++ ys) first.asked ∙ append_assoc old.asked xs ys;
+  reported = second.reported ∙ first.reported;
+  contents = second.contents ∙ first.contents;
+}
+
+-- a front of the report was written behind the names
+pub early_report : (names : List Asked) (status : Status) (text : List ℕ) (start now after : World) → Asks names start now → HasReportedFront now after text → Early (reporting names status text) start after
+early_report names status text start now after asks front = record {
+  names = length names;
+  asked = ap (λ (w : World). w.asked) front.after ∙ asks.asked ∙ ap (λ (ns : List Asked). start.asked ++ ns) (sym (take-length names));
+  bytes = front.count;
+  reported = ap (λ (w : World). w.reported) front.after ∙ ap (λ (bs : List ℕ). bs ++ take front.count text) asks.reported;
+  contents = ap (λ (w : World). w.contents) front.after ∙ asks.contents;
+}
+
+-- a front of the names was asked for, and nothing reported
+pub early_front : (o : Outcome) (start now : World) → AsksAtMost o.names start now → Early o start now
+early_front o start now front = record {
+  names = front.some;
+  asked = front.asks.asked;
+  bytes = 0;
+  reported = front.asks.reported ∙ sym (append-nil start.reported);
+  contents = front.asks.contents;
+}
+
+-- the outcome's names begin with these
+pub record Begins (names : List Asked) (o : Outcome) : Type 0 where
+  pub rest : List Asked
+  pub whole : o.names ≡ names ++ rest
+
+pub begins_exactly : (names : List Asked) (o : Outcome) → o.names ≡ names → Begins names o
+begins_exactly names o e = record { rest = []; whole = e ∙ sym (append-nil names) }
+
+take_front : (xs ys : List Asked) → take (length xs) (xs ++ ys) ≡ xs
+take_front [] ys = refl
+take_front (x ∷ xs) ys = ap (λ (zs : List Asked). x ∷ zs) (take_front xs ys)
+
+-- all of a front of the names was asked for
+pub front_asked : (names : List Asked) (o : Outcome) (old new : World) → Begins names o → Asks names old new → AsksAtMost o.names old new
+front_asked names o old new begins asks =
+    let front : take (length names) o.names ≡ names = ap (take (length names)) begins.whole ∙ take_front names begins.rest in
+    record { some = length names; asks = subst (λ (ns : List Asked). Asks ns old new) (sym front) asks }
+
+take_nothing : (k : ℕ) → take {A = Asked} k [] ≡ []
+take_nothing zero = refl
+take_nothing (suc k) = refl
+
+-- a front of one name behind others
+take_past : (front : List Asked) (n : Asked) (rest : List Asked) (k : ℕ) → take (length front + min k 1) ((front ++ n ∷ []) ++ rest) ≡ front ++ take k (n ∷ [])
+take_past [] n rest zero = refl
+take_past [] n rest (suc k) = let one : min (suc k) 1 ≡ 1 = omega arith in rw one (ap (λ (ns : List Asked). n ∷ ns) (sym (take_nothing k)))
+take_past (x ∷ front) n rest k =
+    let more : length (x ∷ front) + min k 1 ≡ suc (length front + min k 1) = omega arith in
+    rw more (ap (λ (ns : List Asked). x ∷ ns) (take_past front n rest k))
+
+pub front_of_name : (front : List Asked) (n : Asked) (o : Outcome) (old mid new : World) → Begins (front ++ n ∷ []) o → Asks front old mid → AsksAtMost (n ∷ []) mid new → AsksAtMost o.names old new
+front_of_name front n o old mid new begins first more =
+    let all : take (length front + min more.some 1) o.names ≡ front ++ take more.some (n ∷ []) = ap (take (length front + min more.some 1)) begins.whole ∙ take_past front n begins.rest more.some in
+    record {
+      some = length front + min more.some 1;
+      asks = subst (λ (ns : List Asked). Asks ns old new) (sym all) (asks_both front (take more.some (n ∷ [])) old mid new first more.asks);
+    }
+
+match_cases : (b : Bool) (P Q : Type 0) → MatchBool b P Q → ((b ≡ true) × P) ⊎ ((b ≡ false) × Q)
+match_cases true P Q p = inl (refl, p)
+match_cases false P Q q = inr (refl, q)
+
+-- with a file's stage the names begin so, if they do with what follows
+pub file_begins : (names : List Asked) (x : Option (List ℕ)) (limit : ℕ) (which : Which) (On : List ℕ → Outcome → Type 0) (o : Outcome) → ((bytes : List ℕ) → On bytes o → Begins names o) → WithFile names x limit which On o → Begins names o
+file_begins names None limit which On o on h = begins_exactly names o (ap (λ (p : Outcome). p.names) h)
+file_begins names (Some bytes) limit which On o on h = by (match_cases (nat_le (length bytes) limit) (On bytes o) (o ≡ refused names (statuses.TooLarge which)) h)
+  where
+    by : ((nat_le (length bytes) limit ≡ true) × On bytes o) ⊎ ((nat_le (length bytes) limit ≡ false) × (o ≡ refused names (statuses.TooLarge which))) → Begins names o
+    by (inl p) = on bytes p.1
+    by (inr q) = begins_exactly names o (ap (λ (p : Outcome). p.names) q.1)
+
+-- a file that fits leads on
+pub file_on : (names : List Asked) (x : Option (List ℕ)) (limit : ℕ) (which : Which) (On : List ℕ → Outcome → Type 0) (o : Outcome) (bytes : List ℕ) → x ≡ Some bytes → length bytes ≤ limit → WithFile names x limit which On o → On bytes o
+file_on names x limit which On o bytes e fits h =
+    let h' : WithFile names (Some bytes) limit which On o = subst (λ (y : Option (List ℕ)). WithFile names y limit which On o) e h in
+    let yes : nat_le (length bytes) limit ≡ true = grind arith in
+    subst (λ (b : Bool). MatchBool b (On bytes o) (o ≡ refused names (statuses.TooLarge which))) yes h'
+
+-- one that doesn't is refused
+pub file_refused : (names : List Asked) (x : Option (List ℕ)) (limit : ℕ) (which : Which) (On : List ℕ → Outcome → Type 0) (o : Outcome) (bytes : List ℕ) → x ≡ Some bytes → limit < length bytes → WithFile names x limit which On o → o ≡ refused names (statuses.TooLarge which)
+file_refused names x limit which On o bytes e exceeds h =
+    let h' : WithFile names (Some bytes) limit which On o = subst (λ (y : Option (List ℕ)). WithFile names y limit which On o) e h in
+    let no : nat_le (length bytes) limit ≡ false = grind arith in
+    subst (λ (b : Bool). MatchBool b (On bytes o) (o ≡ refused names (statuses.TooLarge which))) no h'
+
+pub refused_asks : (names : List Asked) (status : Status) (o : Outcome) (old new : World) → o ≡ refused names status → Asks names old new → Asks o.names old new × (o ≡ refused o.names status)
+refused_asks names status o old new e asks =
+    let same : o.names ≡ names = ap (λ (p : Outcome). p.names) e in
+    (subst (λ (ns : List Asked). Asks ns old new) (sym same) asks, e ∙ ap (λ (ns : List Asked). refused ns status) (sym same))
+
+-- a file that isn't read stops the command
+pub stopped : (front : List Asked) (n : Asked) (x : Option (List ℕ)) (limit : ℕ) (which : Which) (On : List ℕ → Outcome → Type 0) (o : Outcome) (e : FileErr) (old mid new : World) → Asks front old mid → IsNotRead n x limit e mid new → Begins (front ++ n ∷ []) o → WithFile (front ++ n ∷ []) x limit which On o → Stops o (stop_of e which) old new
+stopped front n x limit which On o errors.TooLarge old mid new first large begins h =
+    refused_asks (front ++ n ∷ []) (statuses.TooLarge which) o old new (file_refused (front ++ n ∷ []) x limit which On o large.bytes large.found large.exceeds h) (asks_both front (n ∷ []) old mid new first large.asks)
+stopped front n x limit which On o errors.HostFault old mid new first more begins h = front_of_name front n o old mid new begins first more
+stopped front n x limit which On o errors.NoMemory old mid new first more begins h = front_of_name front n o old mid new begins first more
+
+-- a command that stopped is early, or has all its names
+pub stops_early : (o : Outcome) (status : Status) (start now : World) → Stops o status start now → Early o start now
+stops_early o statuses.HostFault start now s = early_front o start now s
+stops_early o statuses.NoMemory start now s = early_front o start now s
+stops_early o statuses.Done start now s = early_front o start now (front_asked o.names o start now (begins_exactly o.names o refl) s.0)
+stops_early o statuses.BadWords start now s = early_front o start now (front_asked o.names o start now (begins_exactly o.names o refl) s.0)
+stops_early o (statuses.BadElf e) start now s = early_front o start now (front_asked o.names o start now (begins_exactly o.names o refl) s.0)
+stops_early o (statuses.RunFault f) start now s = early_front o start now (front_asked o.names o start now (begins_exactly o.names o refl) s.0)
+stops_early o (statuses.StepLimit n) start now s = early_front o start now (front_asked o.names o start now (begins_exactly o.names o refl) s.0)
+stops_early o (statuses.TooLarge w) start now s = early_front o start now (front_asked o.names o start now (begins_exactly o.names o refl) s.0)
+
+pub stops_decided : (o : Outcome) (status : Status) (start now : World) → IsDecided status → Stops o status start now → Asks o.names start now × (o ≡ refused o.names status)
+stops_decided o statuses.HostFault start now d s = absurd d
+stops_decided o statuses.NoMemory start now d s = absurd d
+stops_decided o statuses.Done start now d s = s
+stops_decided o statuses.BadWords start now d s = s
+stops_decided o (statuses.BadElf e) start now d s = s
+stops_decided o (statuses.RunFault f) start now d s = s
+stops_decided o (statuses.StepLimit n) start now d s = s
+stops_decided o (statuses.TooLarge w) start now d s = s
+
+-- the run of an image, read against its outcome
+pub run_leads : (names : List Asked) (image : Img) (steps : ℕ) (o : Outcome) (result : Result (Vec ℕ Global) Status) (old new : World) → Asks names old new → o ≡ of_run names steps (end_within image steps) → RunLeads image steps result → Leads o result old new
+run_leads names image steps o (Ok text) old new asks e leads =
+    let is : o ≡ reporting names statuses.Done text.items = e ∙ leads names in
+    let same : o.names ≡ names = ap (λ (p : Outcome). p.names) is in
+    (subst (λ (ns : List Asked). Asks ns old new) (sym same) asks, is ∙ ap (λ (ns : List Asked). reporting ns statuses.Done text.items) (sym same))
+run_leads names image steps o (Err statuses.HostFault) old new asks e leads = absurd leads
+run_leads names image steps o (Err statuses.NoMemory) old new asks e leads = front_asked names o old new (begins_exactly names o (ap (λ (p : Outcome). p.names) e ∙ run_names names steps (end_within image steps))) asks
+  where
+    run_names : (ns : List Asked) (limit : ℕ) (end : End) → (of_run ns limit end).names ≡ ns
+    run_names ns limit (Halted n public) = refl
+    run_names ns limit (Faulted fault) = refl
+    run_names ns limit Limited = refl
+run_leads names image steps o (Err statuses.Done) old new asks e leads = refused_asks names statuses.Done o old new (e ∙ leads names) asks
+run_leads names image steps o (Err statuses.BadWords) old new asks e leads = refused_asks names statuses.BadWords o old new (e ∙ leads names) asks
+run_leads names image steps o (Err (statuses.BadElf f)) old new asks e leads = refused_asks names (statuses.BadElf f) o old new (e ∙ leads names) asks
+run_leads names image steps o (Err (statuses.RunFault f)) old new asks e leads = refused_asks names (statuses.RunFault f) o old new (e ∙ leads names) asks
+run_leads names image steps o (Err (statuses.StepLimit n)) old new asks e leads = refused_asks names (statuses.StepLimit n) o old new (e ∙ leads names) asks
+run_leads names image steps o (Err (statuses.TooLarge w)) old new asks e leads = refused_asks names (statuses.TooLarge w) o old new (e ∙ leads names) asks

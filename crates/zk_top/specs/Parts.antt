@@ -1,0 +1,91 @@
+-- Parts of a command.
+use Rattle.std.specs.Prelude.{◌≡◌, ◌⊎◌, ℕ, ◌<◌, ◌≤◌, List, [], ◌∷◌, ◌++◌, length, take, Option, Some, Vec, Result, Ok, Err}
+use Rattle.std.specs.declared.alloc.Global.{Global}
+use Rattle.host_io.specs.World.{World, Asked}
+use Rattle.rv_model.specs.Image.{Img}
+use Rattle.rv_model.specs.Run.{end_within}
+use Rattle.elf_load.specs.Loads.{Loads}
+use Rattle.elf_load.specs.Refusal.{Refused}
+use Rattle.elf_load.specs.declared.error.ElfErr.{ElfErr}
+use Rattle.zk_words.specs.declared.status.Which.{Which}
+use Rattle.zk_words.specs.declared.status.Status.{Status}
+use Rattle.zk_words.specs.declared.status.Status.TheVariants as statuses
+use Rattle.zk_top.specs.declared.files.FileErr.{FileErr}
+use Rattle.zk_top.specs.declared.files.FileErr.TheVariants as errors
+use Rattle.zk_top.specs.Outcome.{Outcome, reporting, refused, of_run}
+
+-- these names were asked for, and nothing else happened that an outcome speaks of
+pub record Asks (names : List Asked) (old new : World) : Type 0 where
+  pub asked : new.asked ≡ old.asked ++ names
+  pub reported : new.reported ≡ old.reported
+  pub contents : new.contents ≡ old.contents
+
+-- a front of these names was
+pub record AsksAtMost (names : List Asked) (old new : World) : Type 0 where
+  pub some : ℕ
+  pub asks : Asks (take some names) old new
+
+-- the file of this name was asked for, has at most so many bytes, and was read whole
+pub record IsRead (name : Asked) (behind : Option (List ℕ)) (limit : ℕ) (bytes : List ℕ) (old new : World) : Type 0 where
+  pub found : behind ≡ Some bytes
+  pub fits : length bytes ≤ limit
+  pub asks : Asks (name ∷ []) old new
+
+-- it was asked for, and has more bytes
+pub record IsTooLarge (name : Asked) (behind : Option (List ℕ)) (limit : ℕ) (old new : World) : Type 0 where
+  pub bytes : List ℕ
+  pub found : behind ≡ Some bytes
+  pub exceeds : limit < length bytes
+  pub asks : Asks (name ∷ []) old new
+
+-- how a file wasn't read
+abbrev pub IsNotRead : Asked → Option (List ℕ) → ℕ → FileErr → World → World → Type 0
+IsNotRead name behind limit errors.TooLarge old new = IsTooLarge name behind limit old new
+IsNotRead name behind limit errors.HostFault old new = AsksAtMost (name ∷ []) old new
+IsNotRead name behind limit errors.NoMemory old new = AsksAtMost (name ∷ []) old new
+
+-- how a command stops where a file isn't read
+abbrev pub stop_of : FileErr → Which → Status
+stop_of errors.TooLarge which = statuses.TooLarge which
+stop_of errors.HostFault which = statuses.HostFault
+stop_of errors.NoMemory which = statuses.NoMemory
+
+-- this status, or one that may come at any time
+abbrev pub IsOrEarly : Status → Status → Type 0
+IsOrEarly status result = (result ≡ status) ⊎ ((result ≡ statuses.HostFault) ⊎ (result ≡ statuses.NoMemory))
+
+-- a status that the outcome alone decides
+abbrev pub IsDecided : Status → Type 0
+IsDecided statuses.HostFault = ⊥
+IsDecided statuses.NoMemory = ⊥
+IsDecided status = Unit {0}
+
+-- the file has this image and nothing else
+abbrev pub IsOnlyImage : List ℕ → Img → Type 0
+IsOnlyImage file image = ((other : Img) → Loads file [] other → other ≡ image) × ((e : ElfErr) → Refused file e → ⊥)
+
+-- the file has this refusal and nothing else
+abbrev pub IsOnlyRefusal : List ℕ → ElfErr → Type 0
+IsOnlyRefusal file e = ((image : Img) → Loads file [] image → ⊥) × ((other : ElfErr) → Refused file other → other ≡ e)
+
+-- a file was refused, or memory ran out
+abbrev pub IsRefusal : List ℕ → Status → Type 0
+IsRefusal file status = (status ≡ statuses.NoMemory) ⊎ ((e : ElfErr) × (status ≡ statuses.BadElf e) × IsOnlyRefusal file e)
+
+-- the run's report, or how it ends without
+abbrev pub RunLeads : Img → ℕ → Result (Vec ℕ Global) Status → Type 0
+RunLeads image steps (Ok text) = (names : List Asked) → of_run names steps (end_within image steps) ≡ reporting names statuses.Done text.items
+RunLeads image steps (Err statuses.NoMemory) = Unit {0}
+RunLeads image steps (Err statuses.HostFault) = ⊥
+RunLeads image steps (Err status) = (names : List Asked) → of_run names steps (end_within image steps) ≡ refused names status
+
+-- a command stopped before its report: what it asked for, against its outcome
+abbrev pub Stops : Outcome → Status → World → World → Type 0
+Stops o statuses.HostFault old new = AsksAtMost o.names old new
+Stops o statuses.NoMemory old new = AsksAtMost o.names old new
+Stops o status old new = Asks o.names old new × (o ≡ refused o.names status)
+
+-- the work before the report led to its text, or stopped
+abbrev pub Leads : Outcome → Result (Vec ℕ Global) Status → World → World → Type 0
+Leads o (Ok text) old new = Asks o.names old new × (o ≡ reporting o.names statuses.Done text.items)
+Leads o (Err status) old new = Stops o status old new

@@ -1,0 +1,35 @@
+//! The whole program over a host.
+ghost use Rattle.std.specs.Prelude.{◌≡◌, ◌≤◌, ◌⊎◌, List, ℕ};
+ghost use Rattle.host_io.specs.Calls.{HasRisen};
+ghost use Rattle.zk_words.specs.Words.{Reads, texts};
+ghost use Rattle.zk_words.specs.declared.command.Command.{Command as Asked};
+ghost use Rattle.zk_top.specs.Outcome.{Outcome, IsOutcome};
+ghost use Rattle.zk_top.specs.Ends.{Ends};
+
+use crate::ending::refuse;
+use crate::running::run_call;
+use host_io::Host;
+use std::alloc::Global;
+use zk_words::{Command, Status, read_words};
+
+/// The whole program: does what the words ask for (docs/COMMANDS.md), over the host, and answers how it
+/// ended. Nothing that the host is asked for, given or told goes beyond the words' outcome.
+pub fn top<H: Host>(alloc: Global, words: &[String], host: &mut H) -> Status
+    ensures told { H.tells host.old → H.tells host.new }
+    // What is answered, asked for and reported is what the words and the contents of the files come to.
+    ensures ends { H.tells host.old → (o : Outcome) → IsOutcome (H.world host.old).contents (texts words.now) o → Ends o result (H.world host.old) (H.world host.new) }
+    ensures later { H.faults host.old ≤ H.faults host.new }
+    // It fails only where the host has failed.
+    ensures fault { result ≡ Status.HostFault → HasRisen (H.faults host.old) (H.faults host.new) }
+    // Whatever the host tells, words that read as no command are told apart from those that do.
+    ensures bad_words { result ≡ Status.BadWords → (command : Asked) → Reads (texts words.now) command → ⊥ }
+    ensures no_command { ((command : Asked) → Reads (texts words.now) command → ⊥) → (result ≡ Status.BadWords) ⊎ ((result ≡ Status.HostFault) ⊎ (result ≡ Status.NoMemory)) }
+{
+    match read_words(words) {
+        Some(Command::Run { steps }) => match words {
+            [_, elf, input, _] => run_call(alloc, host, elf.as_str(), input.as_str(), steps),
+            _ => unreachable!(),
+        },
+        None => refuse(alloc, host, Status::BadWords),
+    }
+}

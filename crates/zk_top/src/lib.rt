@@ -1,0 +1,15 @@
+//! The commands: what the whole program does between its words and its status, over any host.
+#![tactic(auto)]
+
+mod commands;
+mod ending;
+mod files;
+mod laws;
+mod report;
+mod running;
+#[cfg(test)]
+mod tests;
+
+pub use commands::top;
+pub use laws::one_outcome;
+pub use running::run_call;
