@@ -3,6 +3,7 @@
 # differs from the committed one. With --write it replaces the committed files.
 set -eu
 cd "$(dirname "$0")"
+built=../crates/guest_runs/data
 out=$(mktemp -d)
 trap 'rm -rf "$out"' EXIT
 status=0
@@ -12,8 +13,8 @@ for source in *.c; do
         -static -Wall -Wextra -Wno-main -Wl,--build-id=none -Wl,-T,link.ld -Wl,-s \
         -o "$out/$name.elf" start.S "$source" -lgcc
     if [ "${1:-}" = --write ]; then
-        cp "$out/$name.elf" "built/$name.elf"
-    elif ! cmp "$out/$name.elf" "built/$name.elf"; then
+        cp "$out/$name.elf" "$built/$name.elf"
+    elif ! cmp "$out/$name.elf" "$built/$name.elf"; then
         status=1
     fi
 done
