@@ -1,0 +1,10 @@
+pub mod Going
+pub mod Places
+pub mod Whole
+pub mod Stands
+pub mod Takes
+pub mod Counts
+pub mod Found
+pub mod Again
+pub mod Exclusive
+pub mod Heights
