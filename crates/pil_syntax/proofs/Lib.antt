@@ -1,0 +1,16 @@
+pub mod Resuming
+pub mod Gathering
+pub mod Stepping
+pub mod Lists
+pub mod Complete
+pub mod CompleteFiles
+pub mod Reached
+pub mod Sound
+pub mod SoundFiles
+pub mod Blind
+pub mod Ending
+pub mod Faults
+pub mod Whole
+pub mod Unique
+pub mod Answered
+pub mod Printed
