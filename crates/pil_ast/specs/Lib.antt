@@ -1,0 +1,13 @@
+pub mod Term
+pub mod Tree
+pub mod Columns
+pub mod Value
+pub mod Written
+pub mod Sound
+pub mod Holds
+pub mod Broken
+pub mod Reading
+pub mod Shape
+pub mod Order
+pub mod Turns
+pub mod Filled

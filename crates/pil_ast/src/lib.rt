@@ -1,0 +1,17 @@
+//! A constraint text as a tree, and the value of its expressions at a row.
+#![tactic(auto)]
+
+mod columns;
+mod items;
+mod make;
+mod order;
+mod reader;
+mod shape;
+mod tree;
+mod turns;
+mod values;
+
+pub use columns::Columns;
+pub use make::{add, column, inter, mul, neg, number, public, sub};
+pub use tree::{Expr, Item, List, Pil, Place, Space};
+pub use values::{RowValues, eval};
