@@ -1,11 +1,11 @@
 //! The plain machine: the meaning of a step as a program.
-ghost use Rattle.std.specs.Prelude.{◌≡◌, ◌+◌, ◌*◌, ◌/◌, ◌<◌, ◌≤◌, ◌^◌, OnOk, OnErr, IfOk, unwrap_or, length, take, drop, ◌++◌, ℕ};
+ghost use Rattle.std.specs.Prelude.{◌≡◌, ◌+◌, ◌*◌, ◌/◌, ◌<◌, ◌≤◌, ◌^◌, OnOk, OnErr, IfOk, unwrap_or, length, take, drop, ◌++◌, None, ℕ};
 ghost use Rattle.std.specs.Int.{to_le_bytes, w64};
 ghost use Rattle.std.specs.Ordering.{nat_cmp};
 ghost use Rattle.std.specs.BTreeMap.{get, IsUnchanged};
 ghost use Rattle.rv_model.specs.State.{with_word, executed, step, start};
 ghost use Rattle.rv_model.specs.Cpu.{access, IsGood};
-ghost use Rattle.rv_model.specs.Plain.{word_of, state_of, Leads};
+ghost use Rattle.rv_model.specs.Plain.{word_of, state_of, Leads, IsNew, TouchesNew, NextTouchesNew};
 ghost use Rattle.rv_model.specs.Run.{public_of, window};
 
 use crate::{Access, Cpu, Image, Public, RunFault, StepAnswer, is_store};
@@ -44,6 +44,7 @@ fn word(image: &Image, words: &BTreeMap<u32, u64>, index: u32) -> u64
 fn set_word(words: &mut BTreeMap<u32, u64>, index: u32, value: u64) -> Result<(), AllocError>
     ensures ok { OnOk result ((initial : ℕ → ℕ) (k : ℕ) → unwrap_or (get nat_cmp words.new k) (initial k) ≡ with_word (λ j. unwrap_or (get nat_cmp words.old j) (initial j)) index value k) }
     ensures err { OnErr result (IsUnchanged words.old words.new) }
+    ensures absent { OnErr result (get nat_cmp words.old index ≡ None) }
 {
     words.insert(index, value)?;
     Ok(())
@@ -108,6 +109,7 @@ impl<'a> PlainCpu<'a> {
         requires good { IsGood touch.now }
         ensures ok { IfOk result (λ answer. Leads (executed instr.now (state_of self.old)) answer self.old self.new) }
         ensures err { OnErr result (self.new ≡ self.old) }
+        ensures absent { OnErr result (IsNew self.old touch.now) }
     {
         let index = touch.index();
         let old = word(self.image, &self.words, index);
@@ -122,6 +124,7 @@ impl<'a> PlainCpu<'a> {
     fn execute(&mut self, instr: &Instr) -> Result<StepAnswer, AllocError>
         ensures ok { IfOk result (λ answer. Leads (executed instr.now (state_of self.old)) answer self.old self.new) }
         ensures err { OnErr result (self.new ≡ self.old) }
+        ensures absent { OnErr result (TouchesNew self.old instr.now) }
     {
         let Some(touch) = self.cpu.access(instr) else {
             return Ok(self.cpu.apply(instr, 0));
@@ -137,6 +140,8 @@ impl<'a> PlainCpu<'a> {
     pub fn step(&mut self) -> Result<StepAnswer, AllocError>
         ensures ok { IfOk result (λ answer. Leads (step self.old.image (state_of self.old)) answer self.old self.new) }
         ensures err { OnErr result (self.new ≡ self.old) }
+        // A step takes memory only for a doubleword that it is the first to write.
+        ensures absent { OnErr result (NextTouchesNew self.old) }
     {
         let pc = self.cpu.pc;
         match self.image.fetch(pc) {
