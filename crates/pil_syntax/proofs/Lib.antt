@@ -14,3 +14,4 @@ pub mod Whole
 pub mod Unique
 pub mod Answered
 pub mod Printed
+pub mod Placeless

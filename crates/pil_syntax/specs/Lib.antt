@@ -6,3 +6,4 @@ pub mod Refusal
 pub mod State
 pub mod Machine
 pub mod Printing
+pub mod Placeless

@@ -1,4 +1,5 @@
-//! What printing may rely on, as a law that is proved of every expression.
+//! What printing may rely on, as laws that are proved of every syntax.
+ghost use Rattle.pil_syntax.specs.Placeless.{IsPlaceless};
 ghost use Rattle.pil_syntax.specs.Printing.{IsDressing};
 
 /// The law of printed parentheses: an expression with the parentheses that are needed, and no
@@ -6,4 +7,10 @@ ghost use Rattle.pil_syntax.specs.Printing.{IsDressing};
 /// it was read from is. The call computes nothing.
 pub fn printed_parentheses()
     ensures dressing { IsDressing }
+{}
+
+/// The law of places: tokens that differ from those of a file in their places alone are read as a
+/// file that differs from it in places alone. The call computes nothing.
+pub fn moved_tokens()
+    ensures placeless { IsPlaceless }
 {}
