@@ -1,6 +1,6 @@
 -- The tables of a text: one air for each namespace, and how many of its columns they hold.
 use Rattle.std.specs.Prelude.{◌^◌}
-use Rattle.gold.specs.declared.tables.AirShape.{AirShape}
+use Rattle.gold.specs.declared.shapes.AirShape.{AirShape}
 use Rattle.pil_ast.specs.Term.{Namespace, width}
 
 -- an air has its namespace's rows, and its constant and committed columns
