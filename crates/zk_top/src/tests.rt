@@ -85,7 +85,7 @@ const REFUSALS: [(usize, u8, &str); 11] = [
     (64, 2, "bad elf NotStatic 0\n"),
     (104, 11, "bad elf FilePart 0\n"),
     (84, 1, "bad elf OutOfRange 0\n"),
-    (83, 0x40, "bad elf EntryOutside 65656\n"),
+    (83, 0x40, "bad elf WindowClash 0\n"),
     (24, 0x7a, "bad elf EntryOutside 65658\n"),
     (68, 6, "bad elf EntryOutside 65656\n"),
 ];
