@@ -1,0 +1,10 @@
+//! The emulator's memory: a map from the number of a doubleword to its value, which begins as the image's.
+//! A page of 512 doublewords is made when one of them is first set, so what is never written takes no memory.
+#![tactic(auto)]
+
+mod memory;
+mod page;
+#[cfg(test)]
+mod tests;
+
+pub use memory::Memory;

@@ -1,0 +1,4 @@
+pub mod Steps
+pub mod Onward
+pub mod Completes
+pub mod Facts

@@ -1,0 +1,5 @@
+pub mod Operands
+pub mod Record
+pub mod Chunk
+pub mod Found
+pub mod Laws
