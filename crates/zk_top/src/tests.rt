@@ -90,6 +90,9 @@ const REFUSALS: [(usize, u8, &str); 11] = [
     (68, 6, "bad elf EntryOutside 65656\n"),
 ];
 
+// In place of the code a second program header, with addresses of the first one's segment.
+const SECOND_HEADER: [u32; 14] = [1, 5, 120, 0, 0x1_0078, 0, 0x1_0078, 0, 4, 0, 4, 0, 4, 0];
+
 #[test]
 fn a_run_reports_its_steps_and_output(rt: HostRuntime) -> Result<(), Fail> {
     let alloc = rt.alloc();
@@ -125,6 +128,31 @@ fn faults_and_refusals_are_reported(rt: HostRuntime) -> Result<(), Fail> {
         assert_eq!(rt; status.code(), 3, "at {report}");
         assert_eq!(rt; host.reported(), report.as_bytes(), "at {report}");
     }
+    Ok(())
+}
+
+#[test]
+fn segments_that_overlap_or_are_too_large_are_reported(rt: HostRuntime) -> Result<(), Fail> {
+    let alloc = rt.alloc();
+    let line = words(alloc, "run E I 9")?;
+    let mut overlapping = host(
+        alloc,
+        file(alloc, &SECOND_HEADER, (56, 2))?,
+        Vec::new(alloc),
+    )?;
+    assert_eq!(rt; top(alloc, &line, &mut overlapping).code(), 3);
+    assert_eq!(rt; overlapping.reported(), b"bad elf Overlap 0 1\n".as_slice());
+    let mut bytes = file(alloc, &[0], (99, 1))?;
+    if let Some(byte) = bytes.get_mut(107) {
+        *byte = 1;
+    }
+    bytes.resize(120 + 0x100_0004, 0)?;
+    let mut large = host(alloc, bytes, Vec::new(alloc))?;
+    assert_eq!(rt; top(alloc, &line, &mut large).code(), 3);
+    assert_eq!(rt;
+        large.reported(),
+        b"bad elf TooMuchData 16777220\n".as_slice()
+    );
     Ok(())
 }
 
