@@ -1,0 +1,4 @@
+pub mod Walk
+pub mod Chosen
+pub mod Whole
+pub mod Once

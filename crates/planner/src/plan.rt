@@ -1,0 +1,165 @@
+//! The plan.
+ghost use Rattle.std.specs.Prelude.{◌≡◌, ◌≤◌, ◌<◌, ◌^◌, ◌+◌, ◌-◌, ◌/◌, ◌∷◌, [], ◌++◌, length, IfOk, OnOk, OnErr};
+ghost use Rattle.zk_layout.specs.Air.{rows_per};
+ghost use Rattle.zk_layout.specs.declared.air.Air.{Air};
+ghost use Rattle.planner.specs.Rows.{IsOfChunk};
+ghost use Rattle.planner.specs.Jobs.{jobs, added, finished, rest};
+ghost use Rattle.planner.specs.Track.{IsTrack, IsBefore, IsNext, track_in, made};
+
+use crate::cutting::make_job;
+use crate::track::{Track, Tracks};
+use crate::{Counts, Job};
+use std::alloc::{AllocError, Global};
+use std::marker::Model;
+use zk_layout::Air;
+
+// The job that the last chunk made whole, if it did.
+fn push_whole(
+    alloc: Global,
+    found: &mut Vec<Job>,
+    counts: &[Counts],
+    air: Air,
+    old: Track,
+    new: Track,
+) -> Result<(), AllocError>
+    requires few { length counts.now ≤ 2 ^ 22 }
+    requires next { IsNext air counts.now old new }
+    ensures { OnOk result (found.new.items ≡ found.old.items ++ jobs air counts.now (old.rows / rows_per air) (new.rows / rows_per air - old.rows / rows_per air)) }
+{
+    let size = u64::from(air.rows());
+    let instance = old.rows / size;
+    if instance < new.rows / size {
+        let job = make_job(alloc, counts, air, instance as u32, old.chunk, old.before)?;
+        found.push(job)?;
+    }
+    Ok(())
+}
+
+// The jobs that the last chunk made whole.
+fn jobs_made(
+    alloc: Global,
+    counts: &[Counts],
+    old: &Tracks,
+    new: &Tracks,
+) -> Result<Vec<Job>, AllocError>
+    requires few { length counts.now ≤ 2 ^ 22 }
+    requires next { (air : Air) → IsNext air counts.now (track_in air old.now) (track_in air new.now) }
+    ensures { IfOk result (λ v. v.items ≡ made counts.now old.now new.now) }
+{
+    let mut found = Vec::new(alloc);
+    let jobs = &mut found;
+    push_whole(alloc, jobs, counts, Air::Main, old.of(Air::Main), new.of(Air::Main))?;
+    push_whole(alloc, jobs, counts, Air::Binary, old.of(Air::Binary), new.of(Air::Binary))?;
+    push_whole(alloc, jobs, counts, Air::Shift, old.of(Air::Shift), new.of(Air::Shift))?;
+    push_whole(alloc, jobs, counts, Air::Arith, old.of(Air::Arith), new.of(Air::Arith))?;
+    push_whole(alloc, jobs, counts, Air::Align, old.of(Air::Align), new.of(Air::Align))?;
+    Ok(found)
+}
+
+// The job that isn't whole, if it has a row.
+fn push_rest(
+    alloc: Global,
+    found: &mut Vec<Job>,
+    counts: &[Counts],
+    air: Air,
+    track: Track,
+) -> Result<(), AllocError>
+    requires few { length counts.now ≤ 2 ^ 22 }
+    requires track { IsTrack air counts.now track }
+    ensures { OnOk result (found.new.items ≡ found.old.items ++ rest air counts.now) }
+{
+    let size = u64::from(air.rows());
+    if track.rows % size != 0 {
+        let instance = (track.rows / size) as u32;
+        let job = make_job(alloc, counts, air, instance, track.chunk, track.before)?;
+        found.push(job)?;
+    }
+    Ok(())
+}
+
+// The jobs that aren't whole and aren't empty.
+#[tactic(auto, unfolding(crate::specs::Jobs::finished))]
+fn jobs_left(alloc: Global, counts: &[Counts], tracks: &Tracks) -> Result<Vec<Job>, AllocError>
+    requires few { length counts.now ≤ 2 ^ 22 }
+    requires tracks { (air : Air) → IsTrack air counts.now (track_in air tracks.now) }
+    ensures { IfOk result (λ v. v.items ≡ finished counts.now) }
+{
+    let mut found = Vec::new(alloc);
+    push_rest(alloc, &mut found, counts, Air::Main, tracks.of(Air::Main))?;
+    push_rest(alloc, &mut found, counts, Air::Binary, tracks.of(Air::Binary))?;
+    push_rest(alloc, &mut found, counts, Air::Shift, tracks.of(Air::Shift))?;
+    push_rest(alloc, &mut found, counts, Air::Arith, tracks.of(Air::Arith))?;
+    push_rest(alloc, &mut found, counts, Air::Align, tracks.of(Air::Align))?;
+    Ok(found)
+}
+
+/// Which rows of which chunks each instance takes. Contracts see a plan as the list of the counts that were added since it
+/// was new: the k-th are those of chunk k.
+#[derive(Drop)]
+pub struct Plan {
+    alloc: Global,
+    counts: Vec<Counts>,
+    tracks: Tracks,
+}
+
+impl Model for Plan {
+    ghost use Rattle.std.specs.Prelude.{List};
+    ghost use Rattle.planner.specs.declared.counts.Counts.{Counts};
+    ghost use Rattle.planner.specs.Track.{IsKept};
+
+    ghost Value = { List Counts };
+
+    ghost view = { λ p. p.counts.items };
+
+    ghost invariant = { λ p. IsKept p.counts.items p.tracks };
+}
+
+impl Plan {
+    /// The plan of a run of which nothing is known yet. It takes no memory.
+    pub fn new(alloc: Global) -> Self
+        ensures { result ≡ [] }
+    {
+        Plan {
+            alloc,
+            counts: Vec::new(alloc),
+            tracks: Tracks::new(),
+        }
+    }
+
+    /// Adds the counts of the next chunk, and hands out the jobs that it makes whole, in order of air. An `Err` changes
+    /// nothing. The work is that of the jobs which are handed out: each chunk is gone through once for each job that it
+    /// belongs to.
+    pub fn add(&mut self, counts: &Counts) -> Result<Vec<Job>, AllocError>
+        requires room { length self.old < 2 ^ 22 }
+        requires few { IsOfChunk counts.now }
+        ensures jobs { IfOk result (λ v. v.items ≡ added self.old counts.now) }
+        ensures ok { OnOk result (self.new ≡ self.old ++ counts.now ∷ []) }
+        ensures err { OnErr result (self.new ≡ self.old) }
+    {
+        let tracks = self.tracks.after(counts, self.counts.len() as u32);
+        self.counts.push(*counts)?;
+        match jobs_made(self.alloc, &self.counts, &self.tracks, &tracks) {
+            Ok(jobs) => {
+                self.tracks = tracks;
+                Ok(jobs)
+            }
+            Err(e) => {
+                let _ = self.counts.pop();
+                Err(e)
+            }
+        }
+    }
+
+    /// Hands out the jobs that aren't whole and have a row, in order of air; the plan is then as new. An `Err` changes
+    /// nothing.
+    pub fn finish(&mut self) -> Result<Vec<Job>, AllocError>
+        ensures jobs { IfOk result (λ v. v.items ≡ finished self.old) }
+        ensures ok { OnOk result (self.new ≡ []) }
+        ensures err { OnErr result (self.new ≡ self.old) }
+    {
+        let jobs = jobs_left(self.alloc, &self.counts, &self.tracks)?;
+        self.counts.clear();
+        self.tracks = Tracks::new();
+        Ok(jobs)
+    }
+}

@@ -1,0 +1,94 @@
+//! The airs.
+ghost use Rattle.std.specs.Prelude.{◌≡◌, ◌≤◌, ◌<◌};
+ghost use Rattle.zk_layout.specs.Air.{air_number, rows_per, air_of};
+
+use rv_word::OpNo;
+
+/// A kind of table. A run has some instances of each, all with the same number of rows.
+#[derive(Clone, Copy, Debug, PartialEq, Eq)]
+pub enum Air {
+    /// A row is a step.
+    Main,
+    /// A row is an access to memory or to a register.
+    Mem,
+    /// A row is the operation of a step: a sum, difference, comparison or bitwise operation.
+    Binary,
+    /// A row is the operation of a step: a shift.
+    Shift,
+    /// A row is the operation of a step: a product, quotient or remainder.
+    Arith,
+    /// A row is a load's or store's access to memory.
+    Align,
+    /// A row is a final value: of x10, or of a doubleword of the output window. It has one instance.
+    Out,
+}
+
+impl Air {
+    /// The air's number in a table file, from 0 for Main to 6 for Out.
+    #[tactic(auto, unfolding(crate::specs::Air::air_number))]
+    pub fn number(self) -> u32
+        ensures value { result ≡ air_number self }
+        ensures below { result < 7 }
+    {
+        match self {
+            Air::Main => 0,
+            Air::Mem => 1,
+            Air::Binary => 2,
+            Air::Shift => 3,
+            Air::Arith => 4,
+            Air::Align => 5,
+            Air::Out => 6,
+        }
+    }
+
+    /// The rows of one instance.
+    #[tactic(auto, unfolding(crate::specs::Air::rows_per))]
+    pub fn rows(self) -> u32
+        ensures value { result ≡ rows_per self }
+        ensures least { 64 ≤ result }
+        ensures most { result ≤ 8192 }
+    {
+        match self {
+            Air::Main => 4096,
+            Air::Mem => 8192,
+            Air::Binary => 4096,
+            Air::Shift => 1024,
+            Air::Arith => 1024,
+            Air::Align => 2048,
+            Air::Out => 64,
+        }
+    }
+
+    /// The air whose rows have the operation: Binary, Shift or Arith.
+    #[tactic(auto, unfolding(crate::specs::Air::air_of, rv_word::specs::Numbers::op_number))]
+    pub fn of_operation(op: OpNo) -> Air
+        ensures { result ≡ air_of op }
+    {
+        match op {
+            OpNo::Add
+            | OpNo::Sub
+            | OpNo::Ltu
+            | OpNo::Lt
+            | OpNo::Eq
+            | OpNo::And
+            | OpNo::Or
+            | OpNo::Xor
+            | OpNo::Addw
+            | OpNo::Subw => Air::Binary,
+            OpNo::Sll | OpNo::Srl | OpNo::Sra | OpNo::Sllw | OpNo::Srlw | OpNo::Sraw => Air::Shift,
+            OpNo::Mul
+            | OpNo::Mulh
+            | OpNo::Mulhsu
+            | OpNo::Mulhu
+            | OpNo::Div
+            | OpNo::Divu
+            | OpNo::Rem
+            | OpNo::Remu
+            | OpNo::Mulw
+            | OpNo::Divw
+            | OpNo::Divuw
+            | OpNo::Remw
+            | OpNo::Remuw => Air::Arith,
+        }
+    }
+}
