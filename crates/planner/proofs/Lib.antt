@@ -2,3 +2,4 @@ pub mod Walk
 pub mod Chosen
 pub mod Whole
 pub mod Once
+pub mod Keeping

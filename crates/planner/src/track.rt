@@ -19,8 +19,9 @@ pub struct Track {
 }
 
 impl Track {
+    // Before the first chunk.
     fn new() -> Self
-        ensures { (air : Air) → IsTrack air [] result }
+        ensures { result ≡ record { rows = 0; chunk = 0; before = 0 } }
     {
         Track {
             rows: 0,
