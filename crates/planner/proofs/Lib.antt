@@ -3,3 +3,4 @@ pub mod Chosen
 pub mod Whole
 pub mod Once
 pub mod Keeping
+pub mod CountLemmas

@@ -1,3 +1,4 @@
 pub mod Rows
 pub mod Jobs
 pub mod Track
+pub mod Count

@@ -2,6 +2,7 @@
 //! it needs the chunks that its parts name, and nothing else of the run.
 #![tactic(auto)]
 
+mod counting;
 mod counts;
 mod cutting;
 mod job;
@@ -9,6 +10,7 @@ mod laws;
 mod plan;
 mod track;
 
+pub use counting::count;
 pub use counts::Counts;
 pub use job::{Job, Part};
 pub use laws::{each_job_once, each_whole_job_once, rows_of_a_job};
