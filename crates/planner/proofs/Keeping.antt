@@ -11,10 +11,10 @@ use Rattle.planner.specs.declared.job.Job.{Job}
 use Rattle.planner.specs.declared.track.Track.{Track}
 use Rattle.planner.specs.declared.track.Tracks.{Tracks}
 use Rattle.planner.specs.Rows.{rows_in, IsOfChunk}
-use Rattle.planner.specs.Jobs.{jobs, total, whole, became_whole, added, airs, first_row}
-use Rattle.planner.specs.Track.{IsBefore, IsTrack, IsNext, IsKept, track_in, made}
+use Rattle.planner.specs.Jobs.{job_of, jobs, total, whole, became_whole, added, airs, first_row}
+use Rattle.planner.specs.Track.{IsBefore, IsTrack, IsNext, IsKept, track_in, made_of}
 use Rattle.planner.proofs.Walk.{total_more, total_push}
-use Rattle.planner.proofs.Whole.{positive, div_mono}
+use Rattle.planner.proofs.Whole.{positive, div_mono, whole_pushed}
 use Rattle.planner.proofs.Once.{flat_map_same, no_mem_rows, no_out_rows}
 
 -- a chunk's rows of an air are no more than an instance's
@@ -115,14 +115,19 @@ next_track cs ds t u c k few room h e air =
       near = omega (arith, within_instance air c few);
     })
 
-pub made_added : (cs ds : List Counts) (t u : Tracks) (c : Counts) → IsKept cs t → ((air : Air) → IsTrack air (cs ++ c ∷ []) (track_in air u)) → ds ≡ cs ++ c ∷ [] → made ds t u ≡ added cs c
+pub made_added : (cs ds : List Counts) (t u : Tracks) (c : Counts) → IsKept cs t → ((air : Air) → IsTrack air (cs ++ c ∷ []) (track_in air u)) → ds ≡ cs ++ c ∷ [] → flat_map (λ air. made_of air ds t u) airs ≡ added cs c
 unfolding added
 made_added cs ds t u c k h e =
-    rw e (flat_map_same (λ air. jobs air (cs ++ c ∷ []) ((track_in air t).rows / rows_per air) ((track_in air u).rows / rows_per air - (track_in air t).rows / rows_per air)) (λ air. became_whole air cs c) (λ air.
-    rw ((k.each air).exact, (h air).exact) refl) airs)
+    rw e (flat_map_same (λ air. made_of air (cs ++ c ∷ []) t u) (λ air. became_whole air cs c) (λ air. rw ((k.each air).exact, (h air).exact) refl) airs)
 
 pub track_at : {air : Air} {cs : List Counts} {t u : Track} → t ≡ u → IsTrack air cs u → IsTrack air cs t
 track_at e h = rw e h
 
 pub kept_still : (cs ds : List Counts) (t : Tracks) → IsKept cs t → ds ≡ cs → IsKept ds t
 kept_still cs ds t k e = rw e k
+
+pub whole_of : (air : Air) (counts : List Counts) (t u : Tracks) (a b : Track) (size : ℕ) (old new : List Job) (j : Job) → IsNext air counts (track_in air t) (track_in air u) → a ≡ track_in air t → b ≡ track_in air u → size ≡ rows_per air
+    → a.rows / size < b.rows / size → j ≡ job_of air counts (a.rows / size) → new ≡ old ++ j ∷ [] → new ≡ old ++ made_of air counts t u
+whole_of air counts t u a b size old new j next first last s more is e =
+    let passed : (track_in air t).rows / size < (track_in air u).rows / size = rw (← first, ← last) more in
+    whole_pushed air counts (track_in air t).rows (track_in air u).rows size old new j s next.near passed (is ∙ ap (λ (x : Track). job_of air counts (x.rows / size)) first) e

@@ -42,6 +42,6 @@ pub record IsNext (air : Air) (counts : List Counts) (a b : Track) : Type 0 wher
   pub order : a.rows ≤ b.rows
   pub near : b.rows ≤ a.rows + rows_per air
 
--- the jobs that became whole between two tracks of each air
-abbrev pub made : List Counts → Tracks → Tracks → List Job
-made counts a b = flat_map (λ air. jobs air counts ((track_in air a).rows / rows_per air) ((track_in air b).rows / rows_per air - (track_in air a).rows / rows_per air)) airs
+-- an air's jobs that became whole between two tracks
+abbrev pub made_of : Air → List Counts → Tracks → Tracks → List Job
+made_of air counts a b = jobs air counts ((track_in air a).rows / rows_per air) ((track_in air b).rows / rows_per air - (track_in air a).rows / rows_per air)

@@ -1,35 +1,43 @@
 //! The plan.
-ghost use Rattle.std.specs.Prelude.{◌≡◌, ◌≤◌, ◌<◌, ◌^◌, ◌+◌, ◌-◌, ◌/◌, ◌∷◌, [], ◌++◌, length, IfOk, OnOk, OnErr};
-ghost use Rattle.zk_layout.specs.Air.{rows_per};
+ghost use Rattle.std.specs.Prelude.{◌≡◌, ◌≤◌, ◌<◌, ◌^◌, ◌∷◌, [], ◌++◌, length, IfOk, OnOk, OnErr};
+ghost use Rattle.std.specs.List.{flat_map};
 ghost use Rattle.zk_layout.specs.declared.air.Air.{Air};
 ghost use Rattle.planner.specs.Rows.{IsOfChunk};
-ghost use Rattle.planner.specs.Jobs.{jobs, added, finished, rest};
-ghost use Rattle.planner.specs.Track.{IsTrack, IsBefore, IsNext, track_in, made};
+ghost use Rattle.planner.specs.Jobs.{airs, added, finished, rest};
+ghost use Rattle.planner.specs.Track.{IsTrack, IsNext, made_of, track_in};
 
 use crate::cutting::make_job;
-use crate::track::{Track, Tracks};
+use crate::track::Tracks;
 use crate::{Counts, Job};
 use std::alloc::{AllocError, Global};
 use std::marker::Model;
 use zk_layout::Air;
 
-// The job that the last chunk made whole, if it did.
+// The air's job that the last chunk made whole, if it did.
 fn push_whole(
     alloc: Global,
     found: &mut Vec<Job>,
     counts: &[Counts],
     air: Air,
-    old: Track,
-    new: Track,
+    old: &Tracks,
+    new: &Tracks,
 ) -> Result<(), AllocError>
     requires few { length counts.now ≤ 2 ^ 22 }
-    requires next { IsNext air counts.now old new }
-    ensures { OnOk result (found.new.items ≡ found.old.items ++ jobs air counts.now (old.rows / rows_per air) (new.rows / rows_per air - old.rows / rows_per air)) }
+    requires next { IsNext air counts.now (track_in air old.now) (track_in air new.now) }
+    ensures { OnOk result (found.new.items ≡ found.old.items ++ made_of air counts.now old.now new.now) }
 {
     let size = u64::from(air.rows());
-    let instance = old.rows / size;
-    if instance < new.rows / size {
-        let job = make_job(alloc, counts, air, instance as u32, old.chunk, old.before)?;
+    let track = old.of(air);
+    let instance = track.rows / size;
+    if instance < new.of(air).rows / size {
+        let job = make_job(
+            alloc,
+            counts,
+            air,
+            instance as u32,
+            track.chunk,
+            track.before,
+        )?;
         found.push(job)?;
     }
     Ok(())
@@ -44,31 +52,31 @@ fn jobs_made(
 ) -> Result<Vec<Job>, AllocError>
     requires few { length counts.now ≤ 2 ^ 22 }
     requires next { (air : Air) → IsNext air counts.now (track_in air old.now) (track_in air new.now) }
-    ensures { IfOk result (λ v. v.items ≡ made counts.now old.now new.now) }
+    ensures { IfOk result (λ v. v.items ≡ flat_map (λ air. made_of air counts.now old.now new.now) airs) }
 {
     let mut found = Vec::new(alloc);
-    let jobs = &mut found;
-    push_whole(alloc, jobs, counts, Air::Main, old.of(Air::Main), new.of(Air::Main))?;
-    push_whole(alloc, jobs, counts, Air::Binary, old.of(Air::Binary), new.of(Air::Binary))?;
-    push_whole(alloc, jobs, counts, Air::Shift, old.of(Air::Shift), new.of(Air::Shift))?;
-    push_whole(alloc, jobs, counts, Air::Arith, old.of(Air::Arith), new.of(Air::Arith))?;
-    push_whole(alloc, jobs, counts, Air::Align, old.of(Air::Align), new.of(Air::Align))?;
+    push_whole(alloc, &mut found, counts, Air::Main, old, new)?;
+    push_whole(alloc, &mut found, counts, Air::Binary, old, new)?;
+    push_whole(alloc, &mut found, counts, Air::Shift, old, new)?;
+    push_whole(alloc, &mut found, counts, Air::Arith, old, new)?;
+    push_whole(alloc, &mut found, counts, Air::Align, old, new)?;
     Ok(found)
 }
 
-// The job that isn't whole, if it has a row.
+// The air's job that isn't whole, if it has a row.
 fn push_rest(
     alloc: Global,
     found: &mut Vec<Job>,
     counts: &[Counts],
     air: Air,
-    track: Track,
+    tracks: &Tracks,
 ) -> Result<(), AllocError>
     requires few { length counts.now ≤ 2 ^ 22 }
-    requires track { IsTrack air counts.now track }
+    requires track { IsTrack air counts.now (track_in air tracks.now) }
     ensures { OnOk result (found.new.items ≡ found.old.items ++ rest air counts.now) }
 {
     let size = u64::from(air.rows());
+    let track = tracks.of(air);
     if track.rows % size != 0 {
         let instance = (track.rows / size) as u32;
         let job = make_job(alloc, counts, air, instance, track.chunk, track.before)?;
@@ -77,7 +85,7 @@ fn push_rest(
     Ok(())
 }
 
-// The jobs that aren't whole and aren't empty.
+// The jobs that aren't whole and have a row.
 #[tactic(auto, unfolding(crate::specs::Jobs::finished))]
 fn jobs_left(alloc: Global, counts: &[Counts], tracks: &Tracks) -> Result<Vec<Job>, AllocError>
     requires few { length counts.now ≤ 2 ^ 22 }
@@ -85,11 +93,11 @@ fn jobs_left(alloc: Global, counts: &[Counts], tracks: &Tracks) -> Result<Vec<Jo
     ensures { IfOk result (λ v. v.items ≡ finished counts.now) }
 {
     let mut found = Vec::new(alloc);
-    push_rest(alloc, &mut found, counts, Air::Main, tracks.of(Air::Main))?;
-    push_rest(alloc, &mut found, counts, Air::Binary, tracks.of(Air::Binary))?;
-    push_rest(alloc, &mut found, counts, Air::Shift, tracks.of(Air::Shift))?;
-    push_rest(alloc, &mut found, counts, Air::Arith, tracks.of(Air::Arith))?;
-    push_rest(alloc, &mut found, counts, Air::Align, tracks.of(Air::Align))?;
+    push_rest(alloc, &mut found, counts, Air::Main, tracks)?;
+    push_rest(alloc, &mut found, counts, Air::Binary, tracks)?;
+    push_rest(alloc, &mut found, counts, Air::Shift, tracks)?;
+    push_rest(alloc, &mut found, counts, Air::Arith, tracks)?;
+    push_rest(alloc, &mut found, counts, Air::Align, tracks)?;
     Ok(found)
 }
 

@@ -2,7 +2,6 @@ use Rattle.std.proofs.Common.{◌≡◌, ◌<◌, ◌^◌, length, arith, sym, a
 use Rattle.std.proofs.lemmas.Grind.{common_steps}
 use Rattle.planner.specs.declared.counts.Counts.{Counts}
 use Rattle.planner.specs.Jobs.{added}
-use Rattle.planner.specs.Track.{made}
 use Rattle.planner.proofs.Keeping.{kept_more, kept_still, next_track, made_added}
 use Rattle.planner.proofs.plan.Plan.add.Goals as goal
 
