@@ -1,11 +1,10 @@
 -- The rows of a job are its rows of the list of all rows.
-use Rattle.std.proofs.Common.{◌≡◌, ◌+◌, ◌-◌, ◌*◌, ◌<◌, ◌≤◌, ℕ, zero, suc, min, max, Bool, true, false, cond, ltb, List, [], ◌∷◌, ◌++◌, length, get_or, take, drop, map, refl, ap, sym, ◌∙◌, arith, add-one, append_assoc, ltb-true, ltb-false, le-ltb, lt-ltb, ⊎_elim, inl, inr}
+use Rattle.std.proofs.Common.{◌≡◌, ◌+◌, ◌-◌, ◌*◌, ◌<◌, ◌≤◌, ℕ, zero, suc, min, max, true, false, cond, ltb, List, [], ◌∷◌, ◌++◌, length, get_or, take, drop, map, refl, ap, sym, ◌∙◌, arith, append_assoc, ltb-true, ltb-false}
 use Rattle.std.specs.List.{flat_map}
-use Rattle.std.proofs.lemmas.List.{append-nil, length-append, length-drop, length-take, get_or_at, take_min, drop_all, take_all, nil_from_length, flat_map_more}
+use Rattle.std.proofs.lemmas.List.{append-nil, length-append, length-drop, length-take, get_or_at, take_min, nil_from_length}
 use Rattle.std.proofs.lemmas.Grind.{flat_map-append}
 use Rattle.zk_layout.specs.declared.air.Air.{Air}
 use Rattle.planner.specs.declared.counts.Counts.{Counts}
-use Rattle.planner.specs.declared.job.Part.{Part}
 use Rattle.zk_layout.specs.Air.{rows_per}
 use Rattle.planner.specs.Rows.{rows_in}
 use Rattle.planner.specs.Jobs.{part, parts, chosen, all_chosen}

@@ -1,7 +1,7 @@
 -- What a plan keeps: a track for each air.
-use Rattle.std.proofs.Common.{◌≡◌, ◌+◌, ◌-◌, ◌*◌, ◌/◌, ◌<◌, ◌≤◌, ◌^◌, ℕ, List, [], ◌∷◌, ◌++◌, length, take, refl, ap, sym, ◌∙◌, arith}
+use Rattle.std.proofs.Common.{◌≡◌, ◌+◌, ◌*◌, ◌/◌, ◌<◌, ◌≤◌, ◌^◌, ℕ, List, [], ◌∷◌, ◌++◌, length, refl, ap, sym, ◌∙◌, arith}
 use Rattle.std.specs.List.{flat_map}
-use Rattle.std.proofs.Math.Nat.{div-mul-le_self, lt-div-mul-add}
+use Rattle.std.proofs.Math.Nat.{lt-div-mul-add}
 use Rattle.std.proofs.lemmas.List.{length_push, length-append, take_at, take-append-le}
 use Rattle.zk_layout.specs.Air.{rows_per}
 use Rattle.zk_layout.specs.declared.air.Air.{Air}
@@ -11,9 +11,9 @@ use Rattle.planner.specs.declared.job.Job.{Job}
 use Rattle.planner.specs.declared.track.Track.{Track}
 use Rattle.planner.specs.declared.track.Tracks.{Tracks}
 use Rattle.planner.specs.Rows.{rows_in, IsOfChunk}
-use Rattle.planner.specs.Jobs.{job_of, jobs, total, whole, became_whole, added, airs, first_row}
+use Rattle.planner.specs.Jobs.{job_of, total, became_whole, added, airs}
 use Rattle.planner.specs.Track.{IsBefore, IsTrack, IsNext, IsKept, track_in, made_of}
-use Rattle.planner.proofs.Walk.{total_more, total_push}
+use Rattle.planner.proofs.Walk.{total_push}
 use Rattle.planner.proofs.Whole.{positive, div_mono, whole_pushed}
 use Rattle.planner.proofs.Once.{flat_map_same, no_mem_rows, no_out_rows}
 

@@ -1,6 +1,6 @@
 -- Each job is handed out once.
 use Rattle.std.proofs.Common.{◌≡◌, ◌+◌, ◌-◌, ◌*◌, ◌/◌, ◌%◌, ◌==◌, ◌<◌, ◌≤◌, ℕ, zero, suc, eqb, Bool, true, false, cond, List, [], ◌∷◌, ◌++◌, refl, ap, sym, subst, ◌∙◌, arith, append_assoc, eqb-true}
-use Rattle.std.specs.List.{flat_map, filter, range_with_len}
+use Rattle.std.specs.List.{flat_map}
 use Rattle.std.proofs.lemmas.List.{append-nil}
 use Rattle.std.proofs.lemmas.List.Elements.{filter-append}
 use Rattle.std.proofs.lemmas.Bool.{eqb-false}
@@ -13,7 +13,7 @@ use Rattle.planner.specs.declared.counts.Counts.{Counts}
 use Rattle.planner.specs.declared.job.Job.{Job}
 use Rattle.planner.specs.Rows.{rows_in}
 use Rattle.planner.specs.Jobs.{job_of, jobs, total, whole, became_whole, added, rest, finished, airs, handed, of_air, all_jobs}
-use Rattle.planner.proofs.Walk.{total_cons, total_more}
+use Rattle.planner.proofs.Walk.{total_cons}
 use Rattle.planner.proofs.Whole.{jobs_more, jobs_join, whole_up, whole_none, positive}
 
 -- of one air's jobs all are of that air

@@ -1,5 +1,5 @@
 -- The parts of a job, by a walk along the chunks.
-use Rattle.std.proofs.Common.{◌≡◌, ◌+◌, ◌-◌, ◌*◌, ◌<◌, ◌≤◌, ℕ, zero, suc, min, max, ltb, Bool, true, false, cond, List, [], ◌∷◌, ◌++◌, length, get_or, take, drop, refl, ap, sym, ◌∙◌, arith, append_assoc, le-ltb}
+use Rattle.std.proofs.Common.{◌≡◌, ◌+◌, ◌*◌, ◌<◌, ◌≤◌, ℕ, zero, suc, min, max, ltb, false, List, [], ◌∷◌, ◌++◌, length, get_or, take, drop, refl, ap, sym, ◌∙◌, arith, append_assoc, le-ltb}
 use Rattle.std.specs.List.{flat_map, range_with_len}
 use Rattle.std.proofs.lemmas.List.{at_drop_more, at_drop_all, append-nil, take_at, length_push}
 use Rattle.std.proofs.lemmas.List.Sums.{sum_by-append, sum_by-cons, sum_by_push}
@@ -8,7 +8,7 @@ use Rattle.zk_layout.specs.declared.air.Air.{Air}
 use Rattle.planner.specs.declared.counts.Counts.{Counts}
 use Rattle.planner.specs.declared.job.Part.{Part}
 use Rattle.planner.specs.Rows.{rows_in}
-use Rattle.planner.specs.Jobs.{total, first_row, part, part_of, parts}
+use Rattle.planner.specs.Jobs.{total, part, part_of, parts}
 use Rattle.planner.specs.Track.{IsBefore}
 
 -- of the rows from to to, those that the chunks have, the first of which begins at row at

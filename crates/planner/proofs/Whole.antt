@@ -1,6 +1,5 @@
 -- Whole jobs stay, and one more chunk makes at most one more of each air.
-use Rattle.std.proofs.Common.{◌≡◌, ◌+◌, ◌-◌, ◌*◌, ◌/◌, ◌<◌, ◌≤◌, ℕ, zero, suc, min, max, Bool, true, false, ltb, List, [], ◌∷◌, ◌++◌, map, refl, ap, sym, subst, ◌∙◌, arith, le-ltb, lit<}
-use Rattle.std.specs.List.{range_with_len}
+use Rattle.std.proofs.Common.{◌≡◌, ◌+◌, ◌-◌, ◌*◌, ◌/◌, ◌<◌, ◌≤◌, ℕ, zero, suc, min, max, false, ltb, List, [], ◌∷◌, ◌++◌, refl, ap, sym, ◌∙◌, arith, le-ltb, lit<}
 use Rattle.std.proofs.Math.Nat.{add-div_right, div-mul-le_self}
 use Rattle.std.proofs.lemmas.Nat.{le-div}
 use Rattle.zk_layout.specs.Air.{rows_per}
@@ -9,7 +8,7 @@ use Rattle.zk_layout.specs.declared.air.Air.TheVariants.{Main, Mem, Binary, Shif
 use Rattle.planner.specs.declared.counts.Counts.{Counts}
 use Rattle.planner.specs.declared.job.Job.{Job}
 use Rattle.planner.specs.Rows.{rows_in}
-use Rattle.planner.specs.Jobs.{part, parts, job_of, jobs, total, whole}
+use Rattle.planner.specs.Jobs.{part, job_of, jobs, total, whole}
 use Rattle.planner.proofs.Walk.{parts_from, parts_walked, total_cons, total_more}
 
 pub div_mono : (a b r : ℕ) → 0 < r → a ≤ b → a / r ≤ b / r

@@ -1,5 +1,5 @@
 -- The rows of steps.
-use Rattle.std.specs.Prelude.{ℕ, ◌+◌, ◌==◌, ◌<◌, ◌^◌, List, length, Bool, count_by, is_some}
+use Rattle.std.specs.Prelude.{◌+◌, ◌==◌, List, length, Bool, count_by, is_some}
 use Rattle.zk_layout.specs.Air.{air_number, air_of}
 use Rattle.zk_layout.specs.declared.air.Air.{Air}
 use Rattle.zk_layout.specs.declared.air.Air.TheVariants.{Binary, Shift, Arith}

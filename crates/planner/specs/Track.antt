@@ -1,6 +1,5 @@
 -- How far the chunks so far lead in an air.
 use Rattle.std.specs.Prelude.{◌≡◌, ℕ, ◌+◌, ◌-◌, ◌*◌, ◌/◌, ◌^◌, ◌≤◌, List, length}
-use Rattle.std.specs.List.{flat_map}
 use Rattle.zk_layout.specs.Air.{rows_per}
 use Rattle.zk_layout.specs.declared.air.Air.{Air}
 use Rattle.zk_layout.specs.declared.air.Air.TheVariants.{Main, Mem, Binary, Shift, Arith, Align, Out}
@@ -8,7 +7,7 @@ use Rattle.planner.specs.declared.counts.Counts.{Counts}
 use Rattle.planner.specs.declared.job.Job.{Job}
 use Rattle.planner.specs.declared.track.Track.{Track}
 use Rattle.planner.specs.declared.track.Tracks.{Tracks}
-use Rattle.planner.specs.Jobs.{jobs, airs, total, first_row}
+use Rattle.planner.specs.Jobs.{jobs, total, first_row}
 
 -- job i takes nothing of the chunks before chunk k, which begins with row first
 pub record IsBefore (air : Air) (counts : List Counts) (i k first : ℕ) : Type 0 where

@@ -1,4 +1,4 @@
-use Rattle.std.proofs.Common.{◌≡◌, ◌≤◌, length, [], ◌∙◌, ap, arith}
+use Rattle.std.proofs.Common.{◌∙◌, ap}
 use Rattle.planner.specs.Count.{counted}
 use Rattle.planner.proofs.CountLemmas.{so_far_low, one_low, count_onward, all_counted, records_few}
 use Rattle.planner.proofs.counting.count.Goals as goal

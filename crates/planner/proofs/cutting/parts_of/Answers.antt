@@ -1,4 +1,4 @@
-use Rattle.std.proofs.Common.{rules, ◌≡◌, ◌≤◌, ◌<◌, ◌^◌, ◌*◌, ◌+◌, ◌++◌, length, get_or, refl, arith, sym, ap, ◌∙◌}
+use Rattle.std.proofs.Common.{rules, arith, ◌∙◌}
 use Rattle.planner.proofs.Walk.{one_more, at_return, none_yet}
 use Rattle.planner.proofs.cutting.parts_of.Goals as goal
 
