@@ -135,8 +135,8 @@ impl Plan {
     }
 
     /// Adds the counts of the next chunk, and hands out the jobs that it makes whole, in order of air. An `Err` changes
-    /// nothing. The work is that of the jobs which are handed out: each chunk is gone through once for each job that it
-    /// belongs to.
+    /// nothing. A job costs a walk from the chunk in which it begins to the new one, so that all jobs of a run together
+    /// cost a few steps for each chunk.
     pub fn add(&mut self, counts: &Counts) -> Result<Vec<Job>, AllocError>
         requires room { length self.old < 2 ^ 22 }
         requires few { IsOfChunk counts.now }
