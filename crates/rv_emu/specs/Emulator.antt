@@ -30,10 +30,10 @@ Leads answer touched answers.Halt s t old new = (answer ≡ Halt) × (t ≡ s) �
 Leads answer touched (answers.Fault f) s t old new = (answer ≡ Fault f) × (t ≡ s) × (new ≡ old)
 
 -- so many steps of the run were done from step number `from` on, and all before led on too
-pub record IsAfter (image : Img) (from steps : ℕ) (now : State) (olds : List ℕ) : Type 0 where
+pub record IsAfter (image : Img) (from steps : ℕ) (now : State) (noted : List ℕ) : Type 0 where
   pub on : MeetsLimit image (from + steps)
   pub state : now ≡ state_at image (from + steps)
-  pub olds : olds ≡ olds_between image from steps
+  pub olds : noted ≡ olds_between image from steps
 
 -- what stopped it before step number from + steps, where it was to do at most so many steps
 abbrev pub Stopped : StepAnswer → Img → ℕ → ℕ → ℕ → Type 0
@@ -42,8 +42,8 @@ Stopped answers.Halt image from steps most = (step_at image (from + steps) ≡ H
 Stopped (answers.Fault f) image from steps most = (step_at image (from + steps) ≡ Fault f) × (steps < most)
 
 -- an emulator within chunk number `number`, which began with pc and registers `first`
-pub record IsEmu (image : Img) (limit number steps : ℕ) (first : Cpu) (now : State) (olds : List ℕ) : Type 0 where
-  pub after : IsAfter image (1024 * number) steps now olds
+pub record IsEmu (image : Img) (limit number steps : ℕ) (first : Cpu) (now : State) (noted : List ℕ) : Type 0 where
+  pub after : IsAfter image (1024 * number) steps now noted
   pub begun : first ≡ cpu_at image (1024 * number)
   pub most : steps ≤ 1024
   pub within : 1024 * number + steps ≤ limit
