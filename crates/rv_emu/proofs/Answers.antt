@@ -1,12 +1,14 @@
 -- What the way along a chunk says of the emulator's answer.
-use Rattle.std.proofs.Common.{◌≡◌, ◌+◌, ◌-◌, ◌*◌, ◌<◌, ◌≤◌, ◌^◌, ℕ, List, [], ◌++◌, refl, ap, sym, subst, ◌∙◌, inl, inr, arith}
+use Rattle.std.proofs.Common.{◌≡◌, ◌+◌, ◌-◌, ◌*◌, ◌<◌, ◌≤◌, ◌^◌, ℕ, List, [], ◌++◌, replicate, min, refl, ap, sym, subst, ◌∙◌, inl, inr, arith}
 use Rattle.std.proofs.lemmas.List.{append-nil}
-use Rattle.rv_model.specs.Image.{Img}
+use Rattle.rv_model.specs.Image.{Img, initial_word}
 use Rattle.rv_model.specs.State.{State, Answer, Next, Halt, Fault}
+use Rattle.rv_model.specs.Cpu.{cpu_of, with_memory}
 use Rattle.rv_model.specs.Run.{state_at, step_at, IsNext, IsHalt, public_of, RunsTo, MeetsLimit}
 use Rattle.rv_model.specs.declared.answer.RunFault.{RunFault}
 use Rattle.rv_model.specs.declared.answer.Public.{Public}
 use Rattle.rv_model.specs.declared.cpu.Cpu.{Cpu}
+use Rattle.rv_model.proofs.Ends.{state_first}
 use Rattle.min_trace.specs.Record.{cpu_at, olds_between}
 use Rattle.min_trace.specs.Chunk.{Piece, IsStep, IsChunk}
 use Rattle.rv_emu.specs.Emulator.{IsAfter, IsEmu}
@@ -20,34 +22,39 @@ place image limit number = record { image = image; limit = limit; number = numbe
 abbrev pub piece : ℕ → Cpu → ℕ → List ℕ → Piece
 piece number first steps noted = record { number = number; start = first; steps = steps; olds = noted }
 
--- further along the chunk
-pub went_on : (image : Img) (limit number steps more most : ℕ) (first : Cpu) (now then : State) (noted notes : List ℕ) → IsEmu image limit number steps first now noted → IsAfter image (1024 * number) more then notes → more ≤ most → most ≤ 1024 → 1024 * number + most ≤ limit
+-- further along the chunk, up to so many of its steps
+pub went_on : (image : Img) (limit number steps more most : ℕ) (first : Cpu) (now then : State) (noted notes : List ℕ) → IsEmu image limit number steps first now noted → ((from : ℕ) → IsAfter image from steps now noted → IsAfter image from more then notes) → more ≤ most → most ≤ 1024 → most ≤ limit - 1024 * number
     → IsEmu image limit number more first then notes
-went_on image limit number steps more most first now then noted notes e a few top within = record {
-  after = a;
+went_on image limit number steps more most first now then noted notes e leads few top low = record {
+  after = leads (1024 * number) e.after;
   begun = e.begun;
   most = omega arith;
-  within = omega arith;
+  within = omega (arith, e.within);
   small = e.small;
 }
 
-pub first_step : (image : Img) (limit : ℕ) (first : Cpu) (now : State) (noted : List ℕ) → limit < 2 ^ 32 → now ≡ state_at image 0 → first ≡ cpu_at image 0 → noted ≡ [] → IsEmu image limit 0 0 first now noted
-first_step image limit first now noted small state begun none = record {
-  after = record { on = λ j below. absurd (omega arith); state = state; olds = none };
-  begun = begun;
-  most = omega arith;
-  within = omega arith;
-  small = small;
-}
+abbrev zeros : ℕ → Cpu
+zeros pc = record { pc = pc; x = replicate 32 0 }
+
+pub begins : (image : Img) (limit pc : ℕ) (word : ℕ → ℕ) (noted : List ℕ) → limit < 2 ^ 32 → pc ≡ image.entry → word ≡ initial_word image → noted ≡ [] → IsEmu image limit 0 0 (zeros pc) (with_memory (zeros pc) word) noted
+begins image limit pc word noted small entry memory none =
+    let state : with_memory (zeros pc) word ≡ state_at image 0 = ap (λ n. with_memory (zeros n) word) entry ∙ ap (with_memory (zeros image.entry)) memory ∙ state_first image in
+    record {
+      after = record { on = λ j below. absurd (omega arith); state = state; olds = none };
+      begun = ap cpu_of state;
+      most = omega arith;
+      within = omega arith;
+      small = small;
+    }
 
 -- the start of the next chunk
-pub next_begins : (image : Img) (limit number steps : ℕ) (first next : Cpu) (now : State) (noted left : List ℕ) → IsEmu image limit number steps first now noted → steps ≡ 1024 → next ≡ (record { pc = now.pc; x = now.x }) → left ≡ [] → IsEmu image limit (number + 1) 0 next now left
+pub next_begins : (image : Img) (limit number steps : ℕ) (first next : Cpu) (now : State) (noted left : List ℕ) → IsEmu image limit number steps first now noted → steps ≡ 1024 → next ≡ cpu_of now → left ≡ [] → IsEmu image limit (number + 1) 0 next now left
 next_begins image limit number steps first next now noted left e full begun none =
     let on : 1024 * number + steps ≡ 1024 * (number + 1) + 0 = omega arith in
     let at : 1024 * number + steps ≡ 1024 * (number + 1) = omega arith in
     record {
       after = record { on = subst (MeetsLimit image) on e.after.on; state = e.after.state ∙ ap (state_at image) on; olds = none };
-      begun = begun ∙ ap (λ (s : State). (let c : Cpu = record { pc = s.pc; x = s.x } in c)) e.after.state ∙ ap (cpu_at image) at;
+      begun = begun ∙ ap cpu_of e.after.state ∙ ap (cpu_at image) at;
       most = omega arith;
       within = omega (arith, e.within);
       small = e.small;
@@ -122,3 +129,44 @@ faulted p image limit number steps first now noted fault v e is few below = subs
 
 pub used_up : (p : Place) (image : Img) (limit number steps : ℕ) (first : Cpu) (now : State) (noted : List ℕ) → place image limit number ≡ p → IsEmu image limit number steps first now noted → 1024 * number + steps ≡ limit → steps < 1024 → IsUsedUp p
 used_up p image limit number steps first now noted v e at few = subst IsUsedUp v (record { high = omega arith; on = subst (MeetsLimit image) at e.after.on })
+
+-- what next_chunk has found where it answers, in terms of its fields before
+pub record Found (p : Place) (image : Img) (limit number steps more most : ℕ) (first : Cpu) (now then : State) (noted notes : List ℕ) : Type 0 where
+  pub view : place image limit number ≡ p
+  pub before : IsEmu image limit number steps first now noted
+  pub leads : (from : ℕ) → IsAfter image from steps now noted → IsAfter image from more then notes
+  pub few : more ≤ most
+  pub bound : most ≡ min (limit - 1024 * number) 1024
+
+further : (p : Place) (image : Img) (limit number steps more most : ℕ) (first : Cpu) (now then : State) (noted notes : List ℕ) → Found p image limit number steps more most first now then noted notes → IsEmu image limit number more first then notes
+further p image limit number steps more most first now then noted notes f =
+    went_on image limit number steps more most first now then noted notes f.before f.leads f.few (omega (arith, f.bound)) (omega (arith, f.bound))
+
+pub fault_told : (p : Place) (image : Img) (limit number steps more most : ℕ) (first : Cpu) (now then : State) (noted notes : List ℕ) (fault : RunFault) → Found p image limit number steps more most first now then noted notes
+    → ((from : ℕ) → IsAfter image from steps now noted → (step_at image (from + more) ≡ Fault fault) × (more < most)) → FaultsIn p fault × (place image limit number ≡ p)
+fault_told p image limit number steps more most first now then noted notes fault f stopped =
+    let stop = stopped (1024 * number) f.before.after in
+    let e = further p image limit number steps more most first now then noted notes f in
+    (faulted p image limit number more first then notes fault f.view e stop.0 (omega (arith, stop.1, f.bound)) (omega (arith, stop.1, f.bound)), f.view)
+
+pub limit_told : (p : Place) (image : Img) (limit number steps more most : ℕ) (first : Cpu) (now then : State) (noted notes : List ℕ) → Found p image limit number steps more most first now then noted notes
+    → ((from : ℕ) → IsAfter image from steps now noted → more ≡ most) → most < 1024 → (limit ≡ p.limit) × IsUsedUp p × (place image limit number ≡ p)
+limit_told p image limit number steps more most first now then noted notes f stopped below =
+    let stop = stopped (1024 * number) f.before.after in
+    let e = further p image limit number steps more most first now then noted notes f in
+    (ap (λ (q : Place). q.limit) f.view, used_up p image limit number more first then notes f.view e (omega (arith, stop, f.bound, f.before.within)) (omega (arith, stop)), f.view)
+
+pub last_told : (p : Place) (image : Img) (limit number steps more most : ℕ) (first : Cpu) (now then : State) (noted notes : List ℕ) (c : Piece) (public : Public) → Found p image limit number steps more most first now then noted notes
+    → ((from : ℕ) → IsAfter image from steps now noted → (step_at image (from + more) ≡ Halt) × (more < most)) → c ≡ piece number first (more + 1) notes → public ≡ public_of then → IsLast p c public × (place image limit number ≡ p)
+last_told p image limit number steps more most first now then noted notes c public f stopped is told =
+    let stop = stopped (1024 * number) f.before.after in
+    let e = further p image limit number steps more most first now then noted notes f in
+    (subst (λ d. IsLast p d public) (sym is) (last p image limit number more first then notes public f.view e stop.0 (omega (arith, stop.1, f.bound)) (omega (arith, stop.1, f.bound)) told), f.view)
+
+pub whole_told : (p : Place) (image : Img) (limit number steps more most : ℕ) (first : Cpu) (now then : State) (noted notes : List ℕ) (c : Piece) → Found p image limit number steps more most first now then noted notes
+    → ((from : ℕ) → IsAfter image from steps now noted → more ≡ most) → 1024 ≤ most → c ≡ piece number first 1024 notes
+    → IsWhole p c × (place image limit (number + 1) ≡ record { image = p.image; limit = p.limit; number = p.number + 1 })
+whole_told p image limit number steps more most first now then noted notes c f stopped full is =
+    let stop = stopped (1024 * number) f.before.after in
+    let e = further p image limit number steps more most first now then noted notes f in
+    (subst (IsWhole p) (sym is) (whole p image limit number more first then notes f.view e (omega (arith, stop, full, f.bound))), ap (λ (q : Place). place q.image q.limit (q.number + 1)) f.view)

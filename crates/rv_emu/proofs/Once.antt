@@ -10,6 +10,7 @@ use Rattle.rv_model.specs.declared.answer.RunEnd.TheVariants as ends
 use Rattle.rv_model.proofs.Ends.{ends_once}
 use Rattle.min_trace.specs.Record.{cpu_at, olds_between}
 use Rattle.min_trace.specs.Chunk.{Piece, IsChunk}
+use Rattle.rv_emu.proofs.Answers.{piece}
 use Rattle.rv_emu.specs.declared.emu.Step.{Step}
 use Rattle.rv_emu.specs.declared.emu.Step.TheVariants as steps
 use Rattle.rv_emu.specs.Answered.{Place, IsWhole, IsLast, FaultsIn, IsUsedUp, Answered, EndsBy, IsOnly}
@@ -27,7 +28,7 @@ same_chunk : (image : Img) (c d : Piece) → IsChunk image c → IsChunk image d
 same_chunk image c d is id number steps =
     let start : c.start ≡ d.start = is.start ∙ ap (λ n. cpu_at image (1024 * n)) number ∙ sym id.start in
     let olds : c.olds ≡ d.olds = is.olds ∙ ap (λ n. olds_between image (1024 * n) c.steps) number ∙ ap (olds_between image (1024 * d.number)) steps ∙ sym id.olds in
-    cc
+    ap (λ n. piece n c.start c.steps c.olds) number ∙ ap (λ s. piece d.number s c.steps c.olds) start ∙ ap (λ k. piece d.number d.start k c.olds) steps ∙ ap (piece d.number d.start d.steps) olds
 
 leads_no_halt : (image : Img) (n j : ℕ) → MeetsLimit image n → j < n → step_at image j ≡ Halt → ⊥
 leads_no_halt image n j meets below is = subst IsNext is (meets j below)

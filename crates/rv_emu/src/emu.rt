@@ -118,10 +118,11 @@ impl Emu {
             StepAnswer::Fault(fault) => Err(RunEnd::Fault(fault)),
             StepAnswer::Halt => {
                 let steps = self.steps + 1;
-                match chunk_of(self.alloc, self.number, &self.first, steps, &self.olds) {
-                    Ok(chunk) => Ok(Step::Last(chunk, public(&self.cpu, &self.memory))),
-                    Err(_) => Err(RunEnd::NoMemory),
-                }
+                let Ok(chunk) = chunk_of(self.alloc, self.number, &self.first, steps, &self.olds)
+                else {
+                    return Err(RunEnd::NoMemory);
+                };
+                Ok(Step::Last(chunk, public(&self.cpu, &self.memory)))
             }
             StepAnswer::Next if most < 1024 => Err(RunEnd::StepLimit(self.limit)),
             StepAnswer::Next => {
