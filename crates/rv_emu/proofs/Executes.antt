@@ -1,5 +1,5 @@
 -- What an instruction does to the emulator.
-use Rattle.std.proofs.Common.{◌≡◌, ◌==◌, ℕ, ◌+◌, ◌/◌, ◌%◌, ◌^◌, ◌<◌, Bool, true, false, nat_lt, if◌then◌else◌, List, [], ◌∷◌, ◌++◌, Option, Some, None, IfSome, unwrap_or, Result, Ok, Err, IfOk, refl, ap, sym, subst, ◌∙◌}
+use Rattle.std.proofs.Common.{◌≡◌, ◌==◌, ℕ, ◌+◌, ◌/◌, ◌%◌, ◌^◌, ◌<◌, Bool, true, false, nat_lt, if◌then◌else◌, List, [], ◌∷◌, ◌++◌, Option, Some, None, IfSome, unwrap_or, Result, Ok, Err, IfOk, inl, inr, refl, ap, sym, subst, ◌∙◌}
 use Rattle.std.specs.declared.alloc.AllocError.{AllocError}
 use Rattle.std.proofs.lemmas.Bool.{eq-eqb, lt-ltb}
 use Rattle.std.proofs.lemmas.List.{append-nil}
@@ -22,10 +22,10 @@ use Rattle.min_trace.specs.Record.{instr_of, instr_at, act, old_of, old_at}
 use Rattle.min_trace.specs.Chunk.{IsStep}
 use Rattle.min_trace.proofs.Completes.{executes_at}
 use Rattle.min_trace.proofs.Steps.{good_access, Applies}
-use Rattle.rv_emu.specs.Emulator.{old_by, old_here, Leads}
+use Rattle.rv_emu.specs.Emulator.{old_by, old_here, Leads, IsTouch, IsTouched}
 
 -- the memory after an access
-abbrev pub memory_by : Bool → Option Access → (ℕ → ℕ) → ℕ → ℕ
+abbrev memory_by : Bool → Option Access → (ℕ → ℕ) → ℕ → ℕ
 memory_by store None word = word
 memory_by false (Some a) word = word
 memory_by true (Some a) word = with_word word (a.address / 8) (aligned a.kind (a.address % 8) (word (a.address / 8)) a.value)
@@ -69,32 +69,34 @@ good_leads Fence s = tt
 good_leads Ecall s = tt
 good_leads Ebreak s = tt
 
-touches : (a : Option Access) (word : ℕ → ℕ) (old : ℕ) → IfSome a (λ b. IsGood b → word (b.address / 8) ≡ old) → (b : Option Access) → b ≡ a → IfSome b (λ c. IsGood c → word (c.address / 8) ≡ old)
-touches a word old known b is = subst (λ c. IfSome c (λ d. IsGood d → word (d.address / 8) ≡ old)) (sym is) known
+stored : (stores : Bool) (a : Access) (word : ℕ → ℕ) (old : ℕ) → old ≡ word (a.address / 8)
+    → memory_by stores (Some a) word ≡ (if stores then with_word word (a.address / 8) (aligned a.kind (a.address % 8) old a.value) else word)
+stored true a word old here = ap (λ v. with_word word (a.address / 8) (aligned a.kind (a.address % 8) v a.value)) (sym here)
+stored false a word old here = refl
 
 -- an instruction without an access
-pub leads_none : (i : Instr) (c d : Cpu) (word : ℕ → ℕ) (r : StepAnswer) (olds : List ℕ) → access i (with_memory c word) ≡ None → Applies i 0 c r d → KeepsUnlessNext r c d
+leads_none : (i : Instr) (c d : Cpu) (word : ℕ → ℕ) (r : StepAnswer) (old : ℕ) (olds : List ℕ) → access i (with_memory c word) ≡ None → Applies i old c r d → KeepsUnlessNext r c d
     → Leads (executed i (with_memory c word)) (old_by i (with_memory c word)) r (with_memory c word) (with_memory d word) olds olds
-leads_none i c d word answers.Next olds is applies kept =
+leads_none i c d word answers.Next old olds is applies kept =
     let s : State = with_memory c word in
     let memory : memory_after i s ≡ word = memory_is i s ∙ ap (λ a. memory_by (is_store i) a word) is in
     (applies word (rw is tt) ∙ ap (λ m. Next (with_memory d m)) memory, rw is (sym (append-nil olds)))
-leads_none i c d word answers.Halt olds is applies kept = (applies word (rw is tt), ap (λ e. with_memory e word) kept, refl)
-leads_none i c d word (answers.Fault f) olds is applies kept = (applies word (rw is tt), ap (λ e. with_memory e word) kept, refl)
+leads_none i c d word answers.Halt old olds is applies kept = (applies word (rw is tt), ap (λ e. with_memory e word) kept, refl)
+leads_none i c d word (answers.Fault f) old olds is applies kept = (applies word (rw is tt), ap (λ e. with_memory e word) kept, refl)
 
 -- an access at a bad address faults
 is_good : (a : Option Access) (b : Access) → a ≡ Some b → IfSome a IsGood → IsGood b
 is_good None b is good = cc
 is_good (Some a) b is good = let same : a ≡ b = cc in subst IsGood same good
 
-pub leads_bad : (i : Instr) (c d : Cpu) (word : ℕ → ℕ) (r : StepAnswer) (a : Access) (olds : List ℕ) → access i (with_memory c word) ≡ Some a → (IsGood a → ⊥) → Applies i 0 c r d → KeepsUnlessNext r c d
+leads_bad : (i : Instr) (c d : Cpu) (word : ℕ → ℕ) (r : StepAnswer) (a : Access) (old : ℕ) (olds : List ℕ) → access i (with_memory c word) ≡ Some a → (IsGood a → ⊥) → Applies i old c r d → KeepsUnlessNext r c d
     → Leads (executed i (with_memory c word)) (old_by i (with_memory c word)) r (with_memory c word) (with_memory d word) olds olds
-leads_bad i c d word answers.Next a olds is bad applies kept =
+leads_bad i c d word answers.Next a old olds is bad applies kept =
     let s : State = with_memory c word in
     let on : executed i s ≡ Next (with_memory d (memory_after i s)) = applies word (rw is (λ good. absurd (bad good))) in
     absurd (bad (is_good (access i s) a is (good_access i s (subst IsStep (sym on) tt))))
-leads_bad i c d word answers.Halt a olds is bad applies kept = (applies word (rw is (λ good. absurd (bad good))), ap (λ e. with_memory e word) kept, refl)
-leads_bad i c d word (answers.Fault f) a olds is bad applies kept = (applies word (rw is (λ good. absurd (bad good))), ap (λ e. with_memory e word) kept, refl)
+leads_bad i c d word answers.Halt a old olds is bad applies kept = (applies word (rw is (λ good. absurd (bad good))), ap (λ e. with_memory e word) kept, refl)
+leads_bad i c d word (answers.Fault f) a old olds is bad applies kept = (applies word (rw is (λ good. absurd (bad good))), ap (λ e. with_memory e word) kept, refl)
 
 -- an access at a good address
 fault_no_next : (answer : Answer) (f : RunFault) → answer ≡ Fault f → LeadsOn answer → ⊥
@@ -107,17 +109,35 @@ leads_on : (i : Instr) (s : State) (o : Option Access) (a : Access) → o ≡ So
 leads_on i s None a is good on = cc
 leads_on i s (Some b) a is good on = let same : a ≡ b = cc in on (subst IsGood same good)
 
-pub leads_at : (i : Instr) (c d : Cpu) (word written : ℕ → ℕ) (r : StepAnswer) (a : Access) (old : ℕ) (olds noted : List ℕ) → access i (with_memory c word) ≡ Some a → IsGood a → old ≡ word (a.address / 8) → written ≡ memory_by (is_store i) (Some a) word → noted ≡ olds ++ old ∷ [] → Applies i old c r d
-    → Leads (executed i (with_memory c word)) (old_by i (with_memory c word)) r (with_memory c word) (with_memory d written) olds noted
-leads_at i c d word written answers.Next a old olds noted is good here memory note applies =
+leads_at : (i : Instr) (c d : Cpu) (word written : ℕ → ℕ) (r : StepAnswer) (a : Access) (old : ℕ) (before after : List ℕ) → access i (with_memory c word) ≡ Some a → IsTouch (is_store i) word a old written before after → Applies i old c r d
+    → Leads (executed i (with_memory c word)) (old_by i (with_memory c word)) r (with_memory c word) (with_memory d written) before after
+leads_at i c d word written answers.Next a old before after is t applies =
     let s : State = with_memory c word in
-    let after : memory_after i s ≡ written = memory_is i s ∙ ap (λ b. memory_by (is_store i) b word) is ∙ sym memory in
-    let touched : old ∷ [] ≡ old_by i s = rw is (ap (λ v. v ∷ []) here) in
-    (applies word (rw is (λ good. sym here)) ∙ ap (λ m. Next (with_memory d m)) after, note ∙ ap (λ o. olds ++ o) touched)
-leads_at i c d word written answers.Halt a old olds noted is good here memory note applies =
-    absurd (halt_no_next _ (applies word (rw is (λ good. sym here))) (leads_on i (with_memory c word) _ a is good (good_leads i (with_memory c word))))
-leads_at i c d word written (answers.Fault f) a old olds noted is good here memory note applies =
-    absurd (fault_no_next _ f (applies word (rw is (λ good. sym here))) (leads_on i (with_memory c word) _ a is good (good_leads i (with_memory c word))))
+    let same : memory_by (is_store i) (Some a) word ≡ written = stored (is_store i) a word old t.here ∙ sym t.memory in
+    let left : memory_after i s ≡ written = memory_is i s ∙ ap (λ b. memory_by (is_store i) b word) is ∙ same in
+    let touched : old ∷ [] ≡ old_by i s = rw is (ap (λ v. v ∷ []) t.here) in
+    (applies word (rw is (λ good. sym t.here)) ∙ ap (λ m. Next (with_memory d m)) left, t.noted ∙ ap (λ o. before ++ o) touched)
+leads_at i c d word written answers.Halt a old before after is t applies =
+    absurd (halt_no_next _ (applies word (rw is (λ good. sym t.here))) (leads_on i (with_memory c word) _ a is t.good (good_leads i (with_memory c word))))
+leads_at i c d word written (answers.Fault f) a old before after is t applies =
+    absurd (fault_no_next _ f (applies word (rw is (λ good. sym t.here))) (leads_on i (with_memory c word) _ a is t.good (good_leads i (with_memory c word))))
+
+-- an instruction by what it touches
+leads_by : (i : Instr) (c d : Cpu) (word written : ℕ → ℕ) (r : StepAnswer) (o : Option Access) (old : ℕ) (before after : List ℕ) → access i (with_memory c word) ≡ o → IsTouched i (with_memory c word) o old written before after → Applies i old c r d → KeepsUnlessNext r c d
+    → Leads (executed i (with_memory c word)) (old_by i (with_memory c word)) r (with_memory c word) (with_memory d written) before after
+leads_by i c d word written r None old before after is t applies kept =
+    subst (λ m. Leads (executed i (with_memory c word)) (old_by i (with_memory c word)) r (with_memory c word) (with_memory d m) before after) (sym t.0)
+    (subst (λ xs. Leads (executed i (with_memory c word)) (old_by i (with_memory c word)) r (with_memory c word) (with_memory d word) before xs) (sym t.1) (leads_none i c d word r old before is applies kept))
+leads_by i c d word written r (Some a) old before after is t applies kept = elim t [
+  | inl touch ↦ leads_at i c d word written r a old before after is touch applies
+  | inr (bad, memory, noted) ↦
+      subst (λ m. Leads (executed i (with_memory c word)) (old_by i (with_memory c word)) r (with_memory c word) (with_memory d m) before after) (sym memory)
+      (subst (λ xs. Leads (executed i (with_memory c word)) (old_by i (with_memory c word)) r (with_memory c word) (with_memory d word) before xs) (sym noted) (leads_bad i c d word r a old before is bad applies kept))
+]
+
+pub leads_touched : (i : Instr) (c d : Cpu) (word written : ℕ → ℕ) (r : StepAnswer) (old : ℕ) (before after : List ℕ) → IsTouched i (with_memory c word) (access i (with_memory c word)) old written before after → Applies i old c r d → KeepsUnlessNext r c d
+    → Leads (executed i (with_memory c word)) (old_by i (with_memory c word)) r (with_memory c word) (with_memory d written) before after
+leads_touched i c d word written r old before after t applies kept = leads_by i c d word written r (access i (with_memory c word)) old before after refl t applies kept
 
 -- an instruction that halts makes no access
 no_access : (i : Instr) (s : State) (o : Option Access) → executed i s ≡ Halt → IfSome o IsGood → IfSome o (λ a. IsGood a → LeadsOn (executed i s)) → old_of (act o s.word) ≡ []

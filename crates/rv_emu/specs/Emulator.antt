@@ -1,11 +1,13 @@
 -- An emulator on its way along a chunk.
-use Rattle.std.specs.Prelude.{◌≡◌, ℕ, ◌+◌, ◌*◌, ◌<◌, ◌≤◌, ◌^◌, ◌++◌, List, unwrap_or}
+use Rattle.std.specs.Prelude.{◌≡◌, ◌⊎◌, ℕ, ◌+◌, ◌*◌, ◌/◌, ◌%◌, ◌<◌, ◌≤◌, ◌^◌, Bool, if◌then◌else◌, ◌++◌, [], ◌∷◌, List, Option, Some, None, unwrap_or}
 use Rattle.rv_word.specs.declared.instr.Instr.{Instr}
 use Rattle.rv_word.specs.declared.instr.Instr.TheVariants.{Fence}
 use Rattle.rv_model.specs.Image.{Img, fetch}
-use Rattle.rv_model.specs.State.{State, Answer, Next, Halt, Fault, executed, step}
-use Rattle.rv_model.specs.Cpu.{with_memory, access}
+use Rattle.rv_model.specs.Align.{aligned}
+use Rattle.rv_model.specs.State.{State, Answer, Next, Halt, Fault, with_word}
+use Rattle.rv_model.specs.Cpu.{with_memory, access, is_store, IsGood}
 use Rattle.rv_model.specs.Run.{state_at, step_at, MeetsLimit}
+use Rattle.rv_model.specs.declared.access.Access.{Access}
 use Rattle.rv_model.specs.declared.answer.StepAnswer.{StepAnswer}
 use Rattle.rv_model.specs.declared.answer.StepAnswer.TheVariants as answers
 use Rattle.rv_model.specs.declared.cpu.Cpu.{Cpu}
@@ -22,6 +24,19 @@ old_by i s = old_of (act (access i s) s.word)
 -- the doubleword that the step at a state touches
 unfoldable pub old_here : Img → State → List ℕ
 old_here image s = old_by (unwrap_or (instr_of (fetch image s.pc)) Fence) s
+
+-- an access at a good address, by an instruction that stores or not, found the doubleword old, noted it, and left this memory
+pub record IsTouch (stores : Bool) (word : ℕ → ℕ) (a : Access) (old : ℕ) (written : ℕ → ℕ) (before after : List ℕ) : Type 0 where
+  pub good : IsGood a
+  pub here : old ≡ word (a.address / 8)
+  pub memory : written ≡ (if stores then with_word word (a.address / 8) (aligned a.kind (a.address % 8) old a.value) else word)
+  pub noted : after ≡ before ++ old ∷ []
+
+-- what an instruction touches of a state: without an access, and with one at a bad address, nothing
+abbrev pub IsTouched : Instr → State → Option Access → ℕ → (ℕ → ℕ) → List ℕ → List ℕ → Type 0
+IsTouched i s None old written before after = (written ≡ s.word) × (after ≡ before)
+IsTouched i s (Some a) old written before after =
+    IsTouch (is_store i) s.word a old written before after ⊎ ((IsGood a → ⊥) × (written ≡ s.word) × (after ≡ before))
 
 -- an answer was told and led from s to t; what it touched was noted if it leads on, and else nothing has changed
 abbrev pub Leads : Answer → List ℕ → StepAnswer → State → State → List ℕ → List ℕ → Type 0

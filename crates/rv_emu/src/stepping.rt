@@ -1,41 +1,45 @@
 //! Steps within a chunk.
-ghost use Rattle.std.specs.Prelude.{◌≡◌, ◌+◌, ◌≤◌, ◌<◌, ℕ, IfOk, OnErr, Some};
+ghost use Rattle.std.specs.Prelude.{◌≡◌, ◌+◌, ◌≤◌, ◌<◌, ℕ, IfOk, OnErr};
 ghost use Rattle.rv_model.specs.State.{executed, step};
-ghost use Rattle.rv_model.specs.Cpu.{access, IsGood};
-ghost use Rattle.rv_emu.specs.Emulator.{state_of, old_by, old_here, Leads, IsAfter, Stopped};
+ghost use Rattle.rv_model.specs.Cpu.{access};
+ghost use Rattle.mem_pages.specs.Memory.{word_of};
+ghost use Rattle.rv_emu.specs.Emulator.{state_of, old_by, old_here, Leads, IsTouched, IsAfter, Stopped};
 
 use crate::code::Code;
 use mem_pages::Memory;
-use rv_model::{Access, Cpu, RunFault, StepAnswer, is_store};
+use rv_model::{Cpu, RunFault, StepAnswer, is_store};
 use rv_word::{Instr, decode};
 use std::alloc::AllocError;
 
-// A load or a store at a good address. The doubleword is noted first, so that nothing has changed where memory is wanting.
+// What the instruction touches, if it makes an access at a good address: the doubleword is noted, and a store puts its
+// value. What is answered is the doubleword as it was. It is noted first, so that nothing has changed where memory is
+// wanting.
 #[inline(always)]
-fn execute_at(
+fn touch(
     instr: &Instr,
-    touch: &Access,
-    cpu: &mut Cpu,
+    cpu: &Cpu,
     memory: &mut Memory,
     olds: &mut Vec<u64>,
-) -> Result<StepAnswer, AllocError>
-    requires access { access instr.now (state_of cpu.old memory.old) ≡ Some touch.now }
-    requires good { IsGood touch.now }
-    ensures ok { IfOk result (λ answer. Leads (executed instr.now (state_of cpu.old memory.old)) (old_by instr.now (state_of cpu.old memory.old)) answer (state_of cpu.old memory.old) (state_of cpu.new memory.new) olds.old.items olds.new.items) }
-    ensures err { OnErr result ((state_of cpu.new memory.new ≡ state_of cpu.old memory.old) × (olds.new.items ≡ olds.old.items)) }
+) -> Result<u64, AllocError>
+    ensures ok { IfOk result (λ old. IsTouched instr.now (state_of cpu.now memory.old) (access instr.now (state_of cpu.now memory.old)) old (word_of memory.new) olds.old.items olds.new.items) }
+    ensures err { OnErr result ((memory.new ≡ memory.old) × (olds.new.items ≡ olds.old.items)) }
 {
-    let index = touch.index();
+    let Some(access) = cpu.access(instr) else {
+        return Ok(0);
+    };
+    if !access.is_good() {
+        return Ok(0);
+    }
+    let index = access.index();
     let old = memory.word(index);
     olds.push(old)?;
     if is_store(instr) {
-        if let Err(error) = memory.set_word(index, touch.result(old)) {
+        if let Err(error) = memory.set_word(index, access.result(old)) {
             olds.pop();
             return Err(error);
         }
-        Ok(cpu.apply(instr, old))
-    } else {
-        Ok(cpu.apply(instr, old))
     }
+    Ok(old)
 }
 
 #[inline(always)]
@@ -48,13 +52,8 @@ fn execute(
     ensures ok { IfOk result (λ answer. Leads (executed instr.now (state_of cpu.old memory.old)) (old_by instr.now (state_of cpu.old memory.old)) answer (state_of cpu.old memory.old) (state_of cpu.new memory.new) olds.old.items olds.new.items) }
     ensures err { OnErr result ((state_of cpu.new memory.new ≡ state_of cpu.old memory.old) × (olds.new.items ≡ olds.old.items)) }
 {
-    let Some(touch) = cpu.access(instr) else {
-        return Ok(cpu.apply(instr, 0));
-    };
-    if !touch.is_good() {
-        return Ok(cpu.apply(instr, 0));
-    }
-    execute_at(instr, &touch, cpu, memory, olds)
+    let old = touch(instr, cpu, memory, olds)?;
+    Ok(cpu.apply(instr, old))
 }
 
 // A step at a pc whose word was not decoded before.
