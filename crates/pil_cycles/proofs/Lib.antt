@@ -1,3 +1,5 @@
 pub mod Paths
 pub mod Parts
 pub mod Decided
+pub mod Lists
+pub mod Steps
