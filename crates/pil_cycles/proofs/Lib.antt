@@ -3,3 +3,4 @@ pub mod Parts
 pub mod Decided
 pub mod Lists
 pub mod Steps
+pub mod Added
