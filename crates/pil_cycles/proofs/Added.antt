@@ -7,7 +7,7 @@ use Rattle.pil_ast.specs.Term.{Term, num, col, mid, public, opp, ◌⊕◌, ◌�
 use Rattle.pil_ast.specs.Sound.{Names, NamesOnly}
 use Rattle.pil_cycles.specs.Users.{Uses, AreUsers, AddsUser, named}
 use Rattle.pil_ast.specs.Order.{NamesInside}
-use Rattle.pil_cycles.proofs.Lists.{nothing_in}
+use Rattle.pil_cycles.proofs.Lists.{nothing_in, get_or-default}
 use Rattle.pil_cycles.proofs.Parts.{named_one, naming_inside}
 
 -- the list of what a term names has that and no other
@@ -30,11 +30,6 @@ named_has (opp a) j h = named_has a j h
 named_has (a ⊕ b) j h = elim h as (λ u. Contains (named a ++ named b) j) [ inl c ↦ Contains-append_left (named a) (named b) j (named_has a j c) | inr c ↦ Contains-append_right (named a) (named b) j (named_has b j c) ]
 named_has (a ⊖ b) j h = elim h as (λ u. Contains (named a ++ named b) j) [ inl c ↦ Contains-append_left (named a) (named b) j (named_has a j c) | inr c ↦ Contains-append_right (named a) (named b) j (named_has b j c) ]
 named_has (a ⊗ b) j h = elim h as (λ u. Contains (named a ++ named b) j) [ inl c ↦ Contains-append_left (named a) (named b) j (named_has a j c) | inr c ↦ Contains-append_right (named a) (named b) j (named_has b j c) ]
-
-get_or-default : (xs : List (List ℕ)) (i : ℕ) (d d' : List ℕ) → i < length xs → get_or xs i d ≡ get_or xs i d'
-get_or-default [] i d d' l = absurd (omega arith)
-get_or-default (y ∷ ys) zero d d' l = refl
-get_or-default (y ∷ ys) (suc i) d d' l = get_or-default ys i d d' (omega arith)
 
 -- the users before any is added
 pub adds_none : (users : List (List ℕ)) (user : ℕ) → AddsUser [] user users users
@@ -126,8 +121,3 @@ named_within items item n names same inside long k d l =
     let on : Contains (named (inter_at items item)) (get_or names k d) = subst (λ s. Contains s (get_or names k d)) same (Contains-get_or names k d l) in
     let fits : get_or names k d < length items = named_one (λ j. j < length items) (inter_at items item) (get_or names k d) (inside item) (named_is (inter_at items item) (get_or names k d) on) in
     omega arith
-
--- what a `Vec` holds after a write of all its elements
-pub written_back : (n : ℕ) (old now : List (List ℕ)) → n ≡ length old → length now ≡ length old → take n (now ++ drop (length now) old) ≡ now
-written_back n old now long same =
-    ap (λ s. take n (now ++ s)) (drop_all (length now) old (omega arith)) ∙ ap (take n) (append-nil now) ∙ take_all n now (omega arith)

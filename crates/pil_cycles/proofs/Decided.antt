@@ -1,6 +1,6 @@
 -- Dependence is decided, and items can be ranked exactly where none is on a cycle.
 use Rattle.std.proofs.Common.{ℕ, zero, suc, ◌+◌, ◌<◌, ◌≤◌, ◌≡◌, Bool, true, false, cond, ◌⊎◌, inl, inr, List, length, refl, subst, arith}
-use Rattle.std.proofs.lemmas.Bool.{cases_eq}
+use Rattle.std.proofs.lemmas.Bool.{cases_eq, cases_lt}
 use Rattle.pil_ast.specs.Term.{Line, inter_at}
 use Rattle.pil_ast.specs.Sound.{NamesOnly, IsRanked, IsAcyclic}
 use Rattle.pil_ast.specs.Order.{NamesInside}
@@ -85,15 +85,7 @@ least-below P d (suc n) = elim (least-below P d n) as (λ u. ((k : ℕ) × P k �
 ]
   where
     not_below : (P : ℕ → Type 0) (n j : ℕ) → ((k : ℕ) → k < n → ¬ P k) → P j → n ≤ j
-    not_below P n j none q = by_order (lt_or_le j n)
-      where
-        lt_or_le : (x y : ℕ) → (x < y) ⊎ (y ≤ x)
-        lt_or_le x zero = inr (omega arith)
-        lt_or_le zero (suc y) = inl (omega arith)
-        lt_or_le (suc x) (suc y) = elim (lt_or_le x y) as (λ u. (suc x < suc y) ⊎ (suc y ≤ suc x)) [ inl l ↦ inl (omega arith) | inr l ↦ inr (omega arith) ]
-        by_order : (j < n) ⊎ (n ≤ j) → n ≤ j
-        by_order (inl l) = absurd (none j l q)
-        by_order (inr l) = l
+    not_below P n j none q = elim (cases_lt j n) as (λ u. n ≤ j) [ inl l ↦ absurd (none j l q) | inr l ↦ l ]
     up_to : (P : ℕ → Type 0) (n k : ℕ) → ((i : ℕ) → i < n → ¬ P i) → ¬ P n → k ≤ n → ¬ P k
     up_to P n k none np l = elim (cases_eq k n) as (λ u. ¬ P k) [ inl e ↦ λ q. np (subst P e q) | inr ne ↦ none k (omega arith) ]
 

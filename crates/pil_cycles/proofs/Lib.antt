@@ -4,3 +4,5 @@ pub mod Decided
 pub mod Lists
 pub mod Steps
 pub mod Added
+pub mod Marks
+pub mod Spread

@@ -1,8 +1,8 @@
 -- Elements of lists after a write or a push.
-use Rattle.std.proofs.Common.{ℕ, zero, suc, ◌≡◌, ◌≢◌, ◌<◌, ◌+◌, ◌⊎◌, inl, inr, List, [], ◌∷◌, ◌++◌, length, get_or, set, refl, sym, ◌∙◌, ap, subst, arith, slice_get, Some, Contains, length-append, replicate}
+use Rattle.std.proofs.Common.{ℕ, zero, suc, ◌≡◌, ◌≢◌, ◌<◌, ◌+◌, ◌⊎◌, inl, inr, List, [], ◌∷◌, ◌++◌, length, get_or, set, take, drop, refl, sym, ◌∙◌, ap, subst, arith, slice_get, Some, Contains, length-append, replicate}
 use Rattle.std.proofs.lemmas.Bool.{cases_eq}
 use Rattle.std.proofs.lemmas.Option.{slice_get_within, slice_get-get_or, get_or_from_slice_get}
-use Rattle.std.proofs.lemmas.List.{get_or_append_left}
+use Rattle.std.proofs.lemmas.List.{get_or_append_left, drop_all, take_all, append-nil}
 use Rattle.std.proofs.Math.Seq.{get_or-append_seam}
 use Rattle.std.specs.List.{AllPairs, All}
 
@@ -75,3 +75,14 @@ all_last P xs y h =
 
 pub nothing_in : (x : ℕ) → Contains [] x → ⊥
 nothing_in x h = let l : h.0 < 0 = h.1 in omega arith
+
+-- an element that is there doesn't depend on the default
+pub get_or-default : {X : Type 0} (xs : List X) (i : ℕ) (d d' : X) → i < length xs → get_or xs i d ≡ get_or xs i d'
+get_or-default [] i d d' l = absurd (omega arith)
+get_or-default (y ∷ ys) zero d d' l = refl
+get_or-default (y ∷ ys) (suc i) d d' l = get_or-default ys i d d' (omega arith)
+
+-- what a `Vec` holds after a write of all its elements
+pub written_back : {X : Type 0} (n : ℕ) (old now : List X) → n ≡ length old → length now ≡ length old → take n (now ++ drop (length now) old) ≡ now
+written_back n old now long same =
+    ap (λ s. take n (now ++ s)) (drop_all (length now) old (omega arith)) ∙ ap (take n) (append-nil now) ∙ take_all n now (omega arith)

@@ -1,7 +1,8 @@
 use Rattle.std.proofs.Common.{◌≡◌, ◌<◌, ◌+◌, map, length, sym, subst, ap, ◌∙◌, arith, All, replicate, []}
 use Rattle.std.proofs.lemmas.List.{length-map}
 use Rattle.pil_ast.specs.Tree.{line}
-use Rattle.pil_cycles.proofs.Added.{AreUsersBelow, users_begin, users_more, users_end, named_within, written_back}
+use Rattle.pil_cycles.proofs.Added.{AreUsersBelow, users_begin, users_more, users_end, named_within}
+use Rattle.pil_cycles.proofs.Lists.{written_back}
 use Rattle.pil_cycles.proofs.users.users_of.Goals as goal
 
 pub loop-item-init : goal.loop-item-init
