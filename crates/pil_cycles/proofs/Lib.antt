@@ -6,3 +6,4 @@ pub mod Steps
 pub mod Added
 pub mod Marks
 pub mod Spread
+pub mod Least
