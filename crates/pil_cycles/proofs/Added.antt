@@ -1,10 +1,10 @@
 -- Users that are added.
-use Rattle.std.proofs.Common.{ℕ, zero, suc, ◌≡◌, ◌≢◌, ◌<◌, ◌≤◌, ◌+◌, ◌↔◌, All, Bool, ◌⊎◌, inl, inr, List, [], ◌∷◌, ◌++◌, length, get_or, set, take, drop, refl, sym, ◌∙◌, ap, subst, arith, replicate, Contains, length-set, get_or-set_same, get_or-set_other}
+use Rattle.std.proofs.Common.{ℕ, zero, suc, ◌≡◌, ◌≢◌, ◌<◌, ◌≤◌, ◌+◌, ◌↔◌, All, ◌⊎◌, inl, inr, List, [], ◌∷◌, ◌++◌, length, get_or, set, refl, sym, ◌∙◌, ap, subst, arith, replicate, Contains, length-set, get_or-set_same, get_or-set_other}
 use Rattle.std.proofs.lemmas.Bool.{cases_eq}
 use Rattle.std.proofs.lemmas.List.Elements.{Contains-append_left, Contains-append_right, Contains-append_cases, Contains-push, Contains-push_cases, Contains-get_or}
-use Rattle.std.proofs.lemmas.List.{length-replicate, drop_all, take_all, append-nil}
+use Rattle.std.proofs.lemmas.List.{length-replicate}
 use Rattle.pil_ast.specs.Term.{Term, num, col, mid, public, opp, ◌⊕◌, ◌⊖◌, ◌⊗◌, Line, inter_at}
-use Rattle.pil_ast.specs.Sound.{Names, NamesOnly}
+use Rattle.pil_ast.specs.Sound.{Names}
 use Rattle.pil_cycles.specs.Users.{Uses, AreUsers, AddsUser, named}
 use Rattle.pil_ast.specs.Order.{NamesInside}
 use Rattle.pil_cycles.proofs.Lists.{nothing_in, get_or-default}
@@ -47,13 +47,16 @@ adds_more names user old users item was more h fits at pushed = record {
   where
     here : get_or (set users item more) item [] ≡ get_or users item [] ++ user ∷ []
     here = get_or-set_same users item more [] fits ∙ pushed ∙ ap (λ l. l ++ user ∷ []) (at ∙ get_or-default users item was [] fits)
+
     there : (b : ℕ) → b ≢ item → get_or (set users item more) b [] ≡ get_or users b []
     there b ne = get_or-set_other users item b more [] ne
+
     before : (a b : ℕ) → Uses users a b → Uses old a b ⊎ ((a ≡ user) × Contains (names ++ item ∷ []) b)
     before a b on = elim ((h.those a b).0 on) as (λ u. Uses old a b ⊎ ((a ≡ user) × Contains (names ++ item ∷ []) b)) [
       | inl x ↦ inl x
       | inr w ↦ inr (w.0, Contains-append_left names (item ∷ []) b w.1)
     ]
+
     forth : (a b : ℕ) → Uses (set users item more) a b → Uses old a b ⊎ ((a ≡ user) × Contains (names ++ item ∷ []) b)
     forth a b on = elim (cases_eq b item) as (λ u. Uses old a b ⊎ ((a ≡ user) × Contains (names ++ item ∷ []) b)) [
       | inl e ↦ elim (Contains-push_cases (get_or users item []) user a (subst (λ s. Contains s a) here (subst (λ i. Contains (get_or (set users item more) i []) a) e on))) as (λ u. Uses old a b ⊎ ((a ≡ user) × Contains (names ++ item ∷ []) b)) [
@@ -62,11 +65,13 @@ adds_more names user old users item was more h fits at pushed = record {
       ]
       | inr ne ↦ before a b (subst (λ s. Contains s a) (there b ne) on)
     ]
+
     kept : (a b : ℕ) → Uses users a b → Uses (set users item more) a b
     kept a b on = elim (cases_eq b item) as (λ u. Uses (set users item more) a b) [
       | inl e ↦ subst (λ i. Contains (get_or (set users item more) i []) a) (sym e) (subst (λ s. Contains s a) (sym here) (Contains-append_left (get_or users item []) (user ∷ []) a (subst (λ i. Contains (get_or users i []) a) e on)))
       | inr ne ↦ subst (λ s. Contains s a) (sym (there b ne)) on
     ]
+
     back : (a b : ℕ) → Uses old a b ⊎ ((a ≡ user) × Contains (names ++ item ∷ []) b) → Uses (set users item more) a b
     back a b (inl on) = kept a b ((h.those a b).1 (inl on))
     back a b (inr w) = elim (Contains-push_cases names item b w.1) as (λ u. Uses (set users item more) a b) [
@@ -89,6 +94,7 @@ users_begin items users same = record {
     none_at zero b = refl
     none_at (suc n) zero = refl
     none_at (suc n) (suc b) = none_at n b
+
     empty : (b : ℕ) → get_or users b [] ≡ []
     empty b = ap (λ s. get_or s b []) same ∙ none_at (length items) b
 
@@ -103,6 +109,7 @@ users_more items item names old now h same f = record {
       | inl old_one ↦ let w = (h.those a b).0 old_one in (omega (arith, w.0), w.1)
       | inr w ↦ (omega (arith, w.0), subst (λ x. Names (inter_at items x) b) (sym w.0) (named_is (inter_at items item) b (subst (λ s. Contains s b) same w.1)))
     ]
+
     back : (a b : ℕ) → (a < item + 1) × Names (inter_at items a) b → Uses now a b
     back a b w = elim (cases_eq a item) as (λ u. Uses now a b) [
       | inl e ↦ (f.those a b).1 (inr (e, subst (λ s. Contains s b) (sym same) (named_has (inter_at items item) b (subst (λ x. Names (inter_at items x) b) e w.1))))

@@ -1,12 +1,12 @@
 -- Dependence is decided, and items can be ranked exactly where none is on a cycle.
-use Rattle.std.proofs.Common.{ℕ, zero, suc, ◌+◌, ◌<◌, ◌≤◌, ◌≡◌, Bool, true, false, cond, ◌⊎◌, inl, inr, List, length, refl, subst, arith}
+use Rattle.std.proofs.Common.{ℕ, zero, suc, ◌+◌, ◌<◌, ◌≤◌, ◌≡◌, ◌⊎◌, inl, inr, List, length, refl, subst, arith}
 use Rattle.std.proofs.lemmas.Bool.{cases_eq, cases_lt}
 use Rattle.pil_ast.specs.Term.{Line, inter_at}
-use Rattle.pil_ast.specs.Sound.{NamesOnly, IsRanked, IsAcyclic}
+use Rattle.pil_ast.specs.Sound.{IsRanked, IsAcyclic}
 use Rattle.pil_ast.specs.Order.{NamesInside}
 use Rattle.pil_cycles.specs.Cycles.{DependsOn, on_named, on_deeper, IsOnCycle, IsLeastOnCycle}
 use Rattle.pil_cycles.specs.Paths.{Path, step, walk, NamesAt}
-use Rattle.pil_cycles.proofs.Paths.{join, begins, path_from, depends_from}
+use Rattle.pil_cycles.proofs.Paths.{begins, path_from, depends_from}
 use Rattle.pil_cycles.proofs.Parts.{named_one, named_all, names-decided, naming_inside}
 
 -- a path whose inner numbers are below m
@@ -86,6 +86,7 @@ least-below P d (suc n) = elim (least-below P d n) as (λ u. ((k : ℕ) × P k �
   where
     not_below : (P : ℕ → Type 0) (n j : ℕ) → ((k : ℕ) → k < n → ¬ P k) → P j → n ≤ j
     not_below P n j none q = elim (cases_lt j n) as (λ u. n ≤ j) [ inl l ↦ absurd (none j l q) | inr l ↦ l ]
+
     up_to : (P : ℕ → Type 0) (n k : ℕ) → ((i : ℕ) → i < n → ¬ P i) → ¬ P n → k ≤ n → ¬ P k
     up_to P n k none np l = elim (cases_eq k n) as (λ u. ¬ P k) [ inl e ↦ λ q. np (subst P e q) | inr ne ↦ none k (omega arith) ]
 
@@ -163,6 +164,6 @@ can_be_ranked items inside none = (
   record {
     bounded = λ k. many-bounded items k (length items);
     falling = λ k. named_all (λ j. many items j (length items) < many items k (length items)) (inter_at items k)
-    (λ j w. many-new items k j j (length items) (λ x d. on_deeper k j x w d) (none j) (on_named k j w) (named_one (λ x. x < length items) (inter_at items k) j (inside k) w));
+        (λ j w. many-new items k j j (length items) (λ x d. on_deeper k j x w d) (none j) (on_named k j w) (named_one (λ x. x < length items) (inter_at items k) j (inside k) w));
   },
 )

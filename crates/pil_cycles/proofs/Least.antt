@@ -1,12 +1,12 @@
 -- From the verdicts to the answer.
-use Rattle.std.proofs.Common.{ℕ, ◌≡◌, ◌<◌, ◌≤◌, ◌⊎◌, inl, inr, List, All, length, sym, ◌∙◌, subst, arith, Option, Some, None, MatchOption, Contains, slice_get}
+use Rattle.std.proofs.Common.{ℕ, ◌≡◌, ◌<◌, ◌≤◌, inl, inr, List, length, arith, Option, Some, None, MatchOption}
 use Rattle.std.proofs.lemmas.Bool.{cases_lt}
 use Rattle.pil_ast.specs.Term.{Line}
 use Rattle.pil_ast.specs.Sound.{IsAcyclic}
 use Rattle.pil_ast.specs.Order.{NamesInside}
 use Rattle.pil_cycles.specs.declared.components.Verdict.{Verdict}
-use Rattle.pil_cycles.specs.Cycles.{DependsOn, IsOnCycle, IsLeastOnCycle}
-use Rattle.pil_cycles.specs.Paths.{Path, Reaches, NamesAt}
+use Rattle.pil_cycles.specs.Cycles.{IsOnCycle, IsLeastOnCycle}
+use Rattle.pil_cycles.specs.Paths.{Path, NamesAt}
 use Rattle.pil_cycles.specs.Finish.{IsFinished}
 use Rattle.pil_cycles.specs.Users.{Uses, AreUsers}
 use Rattle.pil_cycles.specs.Verdicts.{IsCyclic, AreVerdicts}

@@ -1,13 +1,13 @@
 -- Verdicts that are written.
-use Rattle.std.proofs.Common.{ℕ, ◌≡◌, ◌≢◌, ◌<◌, ◌≤◌, ◌+◌, cond, ◌⊎◌, inl, inr, List, [], ◌∷◌, ◌++◌, length, get_or, set, refl, sym, ◌∙◌, ap, subst, arith, slice_get, Some, Contains, count_by, length-append, length-set}
+use Rattle.std.proofs.Common.{ℕ, ◌≡◌, ◌<◌, ◌+◌, cond, ◌⊎◌, inl, inr, List, [], ◌∷◌, ◌++◌, length, get_or, set, refl, sym, ◌∙◌, ap, subst, arith, slice_get, Some, Contains, length-append, length-set}
 use Rattle.std.proofs.lemmas.Bool.{cases_eq}
 use Rattle.std.proofs.lemmas.Option.{slice_get_within, slice_get-get_or, get_or_from_slice_get}
 use Rattle.std.proofs.lemmas.List.Elements.{Contains-append_left, Contains-push, Contains-push_cases}
 use Rattle.std.proofs.lemmas.List.Sums.{sum_by-set}
 use Rattle.pil_cycles.specs.declared.components.Verdict.{Verdict}
 use Rattle.pil_cycles.specs.declared.components.Verdict.TheVariants.{Unknown, Free, Cyclic}
-use Rattle.pil_cycles.specs.Verdicts.{IsUnknown, IsFree, IsCyclic, IsKnown, IsMarked, is_unknown, unknown_count}
-use Rattle.pil_cycles.proofs.Lists.{slice_get-set_same, slice_get-set_other, after_set, nothing_in}
+use Rattle.pil_cycles.specs.Verdicts.{IsUnknown, IsCyclic, IsKnown, IsMarked, is_unknown, unknown_count}
+use Rattle.pil_cycles.proofs.Lists.{slice_get-set_same, slice_get-set_other, nothing_in}
 
 pub not_both : (verdicts : List Verdict) (k : ℕ) → IsKnown verdicts k → IsUnknown verdicts k → ⊥
 not_both verdicts k known u = elim known as (λ x. ⊥) [ inl e ↦ let n : ⊥ = cc in n | inr e ↦ let n : ⊥ = cc in n ]
@@ -90,15 +90,17 @@ marks_new list old now todo more longer item h new same = subst (λ s. IsMarked 
     | inr e ↦ inr (was k (sym e), subst (λ x. Contains (list ++ item ∷ []) x) e (Contains-push list item))
   ];
   size =
-    let fewer = unknown_count-set now item Cyclic refl new in
-    let long : length (more ++ item ∷ []) ≡ length more + 1 = length-append more (item ∷ []) in
-    let before = h.size in
-    omega arith;
+      let fewer = unknown_count-set now item Cyclic refl new in
+      let long : length (more ++ item ∷ []) ≡ length more + 1 = length-append more (item ∷ []) in
+      let before = h.size in
+      omega arith;
 }
   where
     marked : (k : ℕ) → k ≡ item → IsCyclic (set now item Cyclic) k
     marked k e = subst (λ x. IsCyclic (set now item Cyclic) x) (sym e) (slice_get-set_same now item Cyclic (slice_get_within now item Unknown new))
+
     was_item : IsUnknown old item
     was_item = elim (h.each item) as (λ u. IsUnknown old item) [ inl e ↦ sym e ∙ new | inr w ↦ absurd (let c : IsCyclic now item = w.1 in let n : ⊥ = cc in n) ]
+
     was : (k : ℕ) → k ≡ item → IsUnknown old k
     was k e = subst (λ x. IsUnknown old x) (sym e) was_item

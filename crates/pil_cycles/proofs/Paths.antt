@@ -1,5 +1,5 @@
 -- Paths, and dependence as a path.
-use Rattle.std.proofs.Common.{ℕ, ◌<◌, ◌≡◌, ◌⊎◌, inl, inr, List, subst, sym}
+use Rattle.std.proofs.Common.{ℕ, inl, inr, List, subst, sym}
 use Rattle.pil_ast.specs.Term.{Line}
 use Rattle.pil_cycles.specs.Cycles.{DependsOn, on_named, on_deeper}
 use Rattle.pil_cycles.specs.Paths.{Path, step, walk, Reaches, NamesAt}

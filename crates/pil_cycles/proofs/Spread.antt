@@ -6,10 +6,10 @@ use Rattle.std.proofs.lemmas.List.{length-replicate}
 use Rattle.std.proofs.lemmas.List.Elements.{All-nil, All-push, All-contains, Contains-push, Contains-push_cases, Contains-get_or}
 use Rattle.pil_cycles.specs.declared.components.Verdict.{Verdict}
 use Rattle.pil_cycles.specs.declared.components.Verdict.TheVariants.{Unknown, Free, Cyclic}
-use Rattle.pil_cycles.specs.Paths.{Path, step, walk, Reaches}
+use Rattle.pil_cycles.specs.Paths.{Path, Reaches}
 use Rattle.pil_cycles.specs.Users.{Uses}
 use Rattle.pil_cycles.specs.Finish.{IsFinished}
-use Rattle.pil_cycles.specs.Verdicts.{IsUnknown, IsFree, IsCyclic, IsKnown, IsMarked, AreRight, AreVerdicts, IsJudged, IsNear, IsSpread}
+use Rattle.pil_cycles.specs.Verdicts.{IsUnknown, IsCyclic, IsKnown, IsMarked, AreVerdicts, IsJudged, IsNear, IsSpread}
 use Rattle.pil_cycles.proofs.Paths.{path_then, step_then, reaches_join, along}
 use Rattle.pil_cycles.proofs.Lists.{slice_get-set_same, slice_get-set_other, after_set, slice_get-replicate, standing, nothing_in, all_front, all_last, get_or-default}
 use Rattle.pil_cycles.proofs.Marks.{not_both, known_same}
@@ -92,16 +92,22 @@ spread_more E count order at root old now todo rest more list item finished user
   where
     near_all : All (IsNear E order at root) (rest ++ item ∷ [])
     near_all = subst (λ s. All (IsNear E order at root) s) same h.near
+
     near_item : IsNear E order at root item
     near_item = all_last (IsNear E order at root) rest item near_all
+
     near_rest : All (IsNear E order at root) rest
     near_rest = all_front (IsNear E order at root) rest item near_all
+
     inside_rest : All (λ k. k < count) rest
     inside_rest = all_front (λ k. k < count) rest item (subst (λ s. All (λ k. k < count) s) same h.inside)
+
     new_near : (k : ℕ) → IsUnknown old k → Contains list k → IsNear E order at root k
     new_near k u on = nearer E count order at root old item k finished h.late near_item (users k item (leads k on)) u (leads k on)
+
     of_more : (P : ℕ → Type 0) → ((k : ℕ) → Contains rest k → P k) → ((k : ℕ) → IsUnknown old k → Contains list k → P k) → (k : ℕ) → Contains more k → P k
     of_more P f g k on = elim (marked.only k on) as (λ u. P k) [ inl c ↦ f k c | inr w ↦ g k w.0 w.1 ]
+
     before : (a b : ℕ) → E a b → b ≢ item → IsKnown old b ⊎ (b ≡ root) → IsKnown now a ⊎ Contains more b
     before a b e ne known = elim (h.closed a b e known) as (λ u. IsKnown now a ⊎ Contains more b) [
       | inl k ↦ inl (known_kept list old now rest more marked a k)
@@ -146,11 +152,13 @@ spread_end_free E count order at root verdicts h stands unknown = record {
   where
     fits : root < length verdicts
     fits = slice_get_within verdicts root Unknown unknown
+
     more : (k : ℕ) → IsKnown verdicts k → IsKnown (set verdicts root Free) k
     more k known = elim (cases_eq k root) as (λ u. IsKnown (set verdicts root Free) k) [
       | inl s ↦ absurd (not_both verdicts root (subst (λ x. IsKnown verdicts x) s known) unknown)
       | inr ne ↦ known_same verdicts (set verdicts root Free) k (slice_get-set_other verdicts root k Free ne) known
     ]
+
     before : (k : ℕ) → IsKnown (set verdicts root Free) k → IsKnown verdicts k ⊎ (k ≡ root)
     before k known = elim (cases_eq k root) as (λ u. IsKnown verdicts k ⊎ (k ≡ root)) [
       | inl s ↦ inr s

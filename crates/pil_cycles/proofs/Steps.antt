@@ -1,15 +1,15 @@
 -- The steps of the search.
-use Rattle.std.proofs.Common.{ℕ, ◌≡◌, ◌≢◌, ◌<◌, ◌≤◌, ◌+◌, Bool, true, false, not, cond, ◌⊎◌, inl, inr, List, [], ◌∷◌, ◌++◌, length, get_or, set, refl, sym, ◌∙◌, ap, subst, arith, slice_get, Some, replicate, Contains, count_by, length-append, length-set}
+use Rattle.std.proofs.Common.{ℕ, ◌≡◌, ◌<◌, ◌+◌, Bool, true, false, not, cond, ◌⊎◌, inl, inr, List, [], ◌∷◌, ◌++◌, length, get_or, set, refl, sym, ◌∙◌, ap, subst, arith, slice_get, Some, replicate, Contains, count_by, length-append, length-set}
 use Rattle.std.proofs.lemmas.Bool.{cases_eq}
-use Rattle.std.proofs.lemmas.Option.{slice_get_within, slice_get-get_or, get_or_from_slice_get}
+use Rattle.std.proofs.lemmas.Option.{slice_get-get_or}
 use Rattle.std.proofs.lemmas.List.{length-replicate, get_or_append_left}
 use Rattle.std.proofs.Math.Seq.{get_or-append_seam}
 use Rattle.std.specs.List.{AllPairs, All}
 use Rattle.std.proofs.lemmas.List.Elements.{All-nil, All-push, Contains-append_left, Contains-push, Contains-push_cases}
 use Rattle.std.proofs.lemmas.List.Quantifiers.{all_pairs_push}
 use Rattle.std.proofs.lemmas.List.Sums.{sum_by-set}
-use Rattle.pil_cycles.specs.Paths.{Path, step, walk, Reaches}
-use Rattle.pil_cycles.specs.Finish.{IsCovered, IsFinished, IsFound, IsVisit, KeepsFound}
+use Rattle.pil_cycles.specs.Paths.{step, Reaches}
+use Rattle.pil_cycles.specs.Finish.{IsFinished, IsFound, IsVisit}
 use Rattle.pil_cycles.proofs.Paths.{reaches_join}
 use Rattle.pil_cycles.proofs.Lists.{slice_get-set_same, slice_get-set_other, after_set, slice_get-push, slice_get-replicate, pairs_front, pairs_last, pairs_contained, all_front, all_last, nothing_in}
 

@@ -26,11 +26,7 @@ fn is_unknown(verdicts: &[Verdict], item: u32) -> bool
 }
 
 /// Marks those of the list that aren't judged yet as Cyclic, and puts them on the stack.
-fn mark_all(
-    list: &[u32],
-    verdicts: &mut [Verdict],
-    todo: &mut Items<u32>,
-) -> Result<(), AllocError>
+fn mark_all(list: &[u32], verdicts: &mut [Verdict], todo: &mut Items<u32>) -> Result<(), AllocError>
     requires { All (λ k. k < length verdicts.old) list.now }
     ensures { OnOk result (IsMarked list.now verdicts.old verdicts.new todo.old todo.new) }
 {
@@ -73,11 +69,7 @@ fn judge_root(
 }
 
 /// What is known of each item in the end.
-pub fn judge(
-    alloc: Global,
-    users: &[Items<u32>],
-    order: &[u32],
-) -> Result<Vec<Verdict>, AllocError>
+pub fn judge(alloc: Global, users: &[Items<u32>], order: &[u32]) -> Result<Vec<Verdict>, AllocError>
     requires users { (a b : ℕ) → Uses users.now a b → a < length users.now }
     requires order { IsFinished (Uses users.now) (length users.now) order.now }
     ensures { IfOk result (λ verdicts. AreVerdicts (Uses users.now) (length users.now) verdicts.items) }

@@ -10,6 +10,5 @@ mod users;
 pub use cycles::least_on_cycle;
 pub use laws::{cycles_are_decided, ranked_have_no_cycle, without_cycle_are_ranked};
 
-
 #[cfg(test)]
 mod tests;

@@ -1,7 +1,7 @@
-use Rattle.std.proofs.Common.{ℕ, ◌≡◌, ◌<◌, ◌+◌, List, All, Contains, [], ◌∷◌, ◌++◌, length, get_or, set, sym, subst, ap, ◌∙◌, arith, slice_get, Some, length-append}
+use Rattle.std.proofs.Common.{ℕ, ◌≡◌, ◌<◌, ◌+◌, List, All, Contains, [], ◌∷◌, ◌++◌, length, get_or, sym, subst, ap, ◌∙◌, arith, length-append}
 use Rattle.std.proofs.lemmas.Option.{slice_get_within}
 use Rattle.std.proofs.lemmas.List.Elements.{All-contains}
-use Rattle.pil_cycles.specs.declared.components.Verdict.TheVariants.{Unknown, Free}
+use Rattle.pil_cycles.specs.declared.components.Verdict.TheVariants.{Unknown}
 use Rattle.pil_cycles.specs.Users.{Uses}
 use Rattle.pil_cycles.specs.Verdicts.{IsUnknown, IsJudged, IsSpread}
 use Rattle.pil_cycles.proofs.Lists.{contains_standing, all_last}

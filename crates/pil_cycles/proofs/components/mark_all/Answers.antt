@@ -1,4 +1,4 @@
-use Rattle.std.proofs.Common.{◌≡◌, ◌<◌, ◌+◌, [], ◌∷◌, ◌++◌, take, length, get_or, set, sym, subst, arith}
+use Rattle.std.proofs.Common.{◌≡◌, ◌<◌, ◌+◌, [], ◌∷◌, ◌++◌, take, length, get_or, set, sym, subst}
 use Rattle.std.proofs.lemmas.List.{take_more}
 use Rattle.pil_cycles.specs.declared.components.Verdict.TheVariants.{Cyclic}
 use Rattle.pil_cycles.specs.Verdicts.{IsMarked, IsUnknown}

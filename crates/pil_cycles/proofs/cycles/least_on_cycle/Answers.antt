@@ -1,9 +1,8 @@
-use Rattle.std.proofs.Common.{ℕ, ◌≡◌, ◌<◌, List, map, length, sym, subst, ap, ◌∙◌, MatchOption}
+use Rattle.std.proofs.Common.{map, length, sym, subst}
 use Rattle.std.proofs.lemmas.List.{length-map}
 use Rattle.pil_ast.specs.Tree.{line}
 use Rattle.pil_cycles.specs.Users.{AreUsers, Uses}
 use Rattle.pil_cycles.specs.Finish.{IsFinished}
-use Rattle.pil_cycles.specs.Paths.{NamesAt}
 use Rattle.pil_cycles.specs.Verdicts.{AreVerdicts}
 use Rattle.pil_cycles.proofs.Least.{users_inside, finished_users, answered}
 use Rattle.pil_cycles.proofs.cycles.least_on_cycle.Goals as goal

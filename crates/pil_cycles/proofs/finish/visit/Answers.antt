@@ -6,7 +6,7 @@ use Rattle.pil_cycles.specs.Paths.{NamesAt}
 use Rattle.pil_cycles.specs.Finish.{IsFound}
 use Rattle.pil_cycles.proofs.Parts.{named_one, names_weaker}
 use Rattle.pil_cycles.proofs.Lists.{slice_get-set_same}
-use Rattle.pil_cycles.proofs.Steps.{found_more, opens, below_top, closes, top_inside, new_count-found}
+use Rattle.pil_cycles.proofs.Steps.{found_more, opens, below_top, closes, new_count-found}
 use Rattle.pil_cycles.proofs.finish.visit.Goals as goal
 
 pub loop-item-init : goal.loop-item-init

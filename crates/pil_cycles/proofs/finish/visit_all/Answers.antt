@@ -1,4 +1,4 @@
-use Rattle.std.proofs.Common.{ℕ, ◌<◌, inl, inr, map, length, subst, sym, arith}
+use Rattle.std.proofs.Common.{inl, inr, map, length, subst, sym, arith}
 use Rattle.std.proofs.lemmas.Bool.{cases_eq}
 use Rattle.pil_ast.specs.Tree.{line}
 use Rattle.pil_cycles.specs.Paths.{NamesAt}

@@ -1,6 +1,6 @@
-use Rattle.std.proofs.Common.{ℕ, zero, suc, ◌≡◌, ◌<◌, ◌+◌, List, [], ◌∷◌, ◌++◌, map, length, sym, ◌∙◌, ap, subst, arith, length-append}
-use Rattle.pil_ast.specs.Tree.{term, line}
-use Rattle.pil_ast.specs.Term.{Line, body_of, inter_at}
+use Rattle.std.proofs.Common.{ℕ, zero, suc, ◌<◌, ◌+◌, List, [], ◌∷◌, ◌++◌, map, length, sym, ◌∙◌, ap, subst, length-append}
+use Rattle.pil_ast.specs.Tree.{line}
+use Rattle.pil_ast.specs.Term.{body_of, inter_at}
 use Rattle.pil_ast.specs.Sound.{NamesOnly}
 use Rattle.pil_ast.specs.declared.tree.Item.{Item}
 use Rattle.pil_cycles.proofs.tests.namespace.Goals as goal

@@ -1,4 +1,4 @@
-use Rattle.std.proofs.Common.{◌≡◌, ◌+◌, [], ◌∷◌, ◌++◌, take, length, get_or, set, sym, subst, refl, ap, ◌∙◌, ◌<◌, arith}
+use Rattle.std.proofs.Common.{◌≡◌, ◌+◌, [], ◌∷◌, ◌++◌, take, length, get_or, set, sym, subst, ap, ◌∙◌, ◌<◌, arith}
 use Rattle.std.proofs.lemmas.List.{take_more}
 use Rattle.pil_cycles.specs.Users.{AddsUser}
 use Rattle.pil_cycles.proofs.Added.{adds_more}

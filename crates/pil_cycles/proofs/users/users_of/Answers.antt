@@ -1,4 +1,4 @@
-use Rattle.std.proofs.Common.{◌≡◌, ◌<◌, ◌+◌, map, length, sym, subst, ap, ◌∙◌, arith, All, replicate, []}
+use Rattle.std.proofs.Common.{◌≡◌, ◌+◌, map, length, sym, subst, ap, ◌∙◌, arith, replicate, []}
 use Rattle.std.proofs.lemmas.List.{length-map}
 use Rattle.pil_ast.specs.Tree.{line}
 use Rattle.pil_cycles.proofs.Added.{AreUsersBelow, users_begin, users_more, users_end, named_within}
