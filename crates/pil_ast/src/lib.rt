@@ -12,6 +12,8 @@ mod turns;
 mod values;
 
 pub use columns::Columns;
+pub use items::expression;
 pub use make::{add, column, inter, mul, neg, number, public, sub};
 pub use tree::{Expr, Item, List, Pil, Place, Space};
+pub use turns::{Turn, plan};
 pub use values::{RowValues, eval};

@@ -1,0 +1,5 @@
+pub mod Cycles
+pub mod Paths
+pub mod Finish
+pub mod Users
+pub mod Verdicts
