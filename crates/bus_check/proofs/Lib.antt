@@ -1,0 +1,5 @@
+pub mod Times
+pub mod Least
+pub mod Sorted
+pub mod Places
+pub mod Sent
