@@ -1,12 +1,12 @@
 -- The least tuple that two ascending lists don't have equally often.
-use Rattle.std.proofs.Common.{ℕ, zero, suc, ◌+◌, ◌<◌, ◌≤◌, ◌≡◌, ◌≢◌, ◌⊎◌, inl, inr, Bool, true, false, cond, List, [], ◌∷◌, length, get_or, map, refl, sym, ap, subst, ◌∙◌, arith}
+use Rattle.std.proofs.Common.{ℕ, zero, suc, ◌<◌, ◌≤◌, ◌≡◌, false, cond, List, [], ◌∷◌, length, get_or, refl, sym, ap, subst, ◌∙◌, arith}
 use Rattle.std.proofs.lemmas.Bool.{true≢false}
 use Rattle.std.specs.Str.{bytes_eq}
 use Rattle.std.specs.Ordering.{nat_cmp, is_lt, is_eq, ordering_reverse}
 use Rattle.std.specs.declared.cmp.Ordering.{Ordering}
 use Rattle.std.specs.declared.cmp.Ordering.TheVariants.{Less, Equal, Greater}
 use Rattle.std.specs.Cmp.Lexicographic.{slice_cmp}
-use Rattle.std.proofs.lemmas.Cmp.{nat_list_cmp_total, tied_itself, alike_right}
+use Rattle.std.proofs.lemmas.Cmp.{nat_list_cmp_total, alike_right}
 use Rattle.std.proofs.lemmas.Map.Text.{is_eq-slice_cmp}
 use Rattle.std.proofs.lemmas.Map.Lookups.{exact_bytes}
 use Rattle.std.proofs.lemmas.List.{get_or_default}
@@ -14,7 +14,7 @@ use Rattle.std.proofs.lemmas.List.Sorted.{sorted_far, ranks_by}
 use Rattle.pil_ast.specs.Holds.{times}
 use Rattle.pil_ast.specs.Broken.{ComesBefore}
 use Rattle.bus_check.specs.Bus.{Ascend, IsLeast, PartAt}
-use Rattle.bus_check.proofs.Times.{is_one, times-cons, times-nil, times-other, times-here, times-nowhere, same_self}
+use Rattle.bus_check.proofs.Times.{is_one, times-cons, times-nil, times-here, times-nowhere, same_self}
 
 -- no tuple is less than one before it
 abbrev pub Rises : List (List ℕ) → Type 0
@@ -48,16 +48,16 @@ least-sym xs ys t h = record { differ = λ e. h.differ (sym e); first = λ u b. 
 least-cons : (x y : List ℕ) (xs ys : List (List ℕ)) (t : List ℕ) → x ≡ y → IsLeast xs ys t → IsLeast (x ∷ xs) (y ∷ ys) t
 least-cons x y xs ys t e h = record {
   differ = λ w. h.differ (
-    let a = times-cons t x xs in
-    let b = times-cons t y ys in
-    let k = ap (λ z. is_one (bytes_eq z t)) e in
-    omega arith);
+      let a = times-cons t x xs in
+      let b = times-cons t y ys in
+      let k = ap (λ z. is_one (bytes_eq z t)) e in
+      omega arith);
   first = λ u l.
-    let a = times-cons u x xs in
-    let b = times-cons u y ys in
-    let k = ap (λ z. is_one (bytes_eq z u)) e in
-    let w = h.first u l in
-    omega arith;
+      let a = times-cons u x xs in
+      let b = times-cons u y ys in
+      let k = ap (λ z. is_one (bytes_eq z u)) e in
+      let w = h.first u l in
+      omega arith;
 }
 
 -- the first tuple of one list, where the other list is empty or begins with a greater one

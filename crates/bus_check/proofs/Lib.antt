@@ -3,3 +3,4 @@ pub mod Least
 pub mod Sorted
 pub mod Places
 pub mod Sent
+pub mod InText

@@ -1,9 +1,8 @@
 -- What rows, instances and lists send, one after the other.
-use Rattle.std.proofs.Common.{ℕ, zero, suc, ◌+◌, ◌<◌, ◌≤◌, ◌≡◌, Bool, true, false, cond, List, [], ◌∷◌, ◌++◌, Option, Some, None, length, get_or, take, map, flat_map, append_assoc, add-one, refl, sym, ap, subst, ◌∙◌, arith, All}
-use Rattle.std.specs.Global.{Vec}
+use Rattle.std.proofs.Common.{ℕ, zero, suc, ◌+◌, ◌<◌, ◌≡◌, List, [], ◌∷◌, ◌++◌, length, get_or, take, map, flat_map, add-one, sym, ap, subst, ◌∙◌, arith, All}
 use Rattle.std.specs.List.{range_with_len}
 use Rattle.std.proofs.lemmas.List.Elements.{All-get_or}
-use Rattle.std.proofs.lemmas.List.{get_or-map, length-map, append-nil, map-append, map_more, take-map, take_more, flat_map_more}
+use Rattle.std.proofs.lemmas.List.{get_or-map, length-map, append-nil, map-append, map_more, take-map, flat_map_more}
 use Rattle.pil_ast.specs.Term.{Namespace, Tuples}
 use Rattle.pil_ast.specs.Columns.{Columns}
 use Rattle.pil_ast.specs.Holds.{by_rows, row_sent, sent, all_sent}

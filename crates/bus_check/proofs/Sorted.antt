@@ -1,9 +1,8 @@
 -- Vectors in order, and where a search in them ends.
-use Rattle.std.proofs.Common.{ℕ, zero, suc, ◌+◌, ◌<◌, ◌≤◌, ◌≡◌, ◌≢◌, Bool, true, false, IsTrue, ◌↔◌, inl, inr, List, [], ◌∷◌, length, get_or, map, refl, sym, ap, subst, ◌∙◌, arith}
+use Rattle.std.proofs.Common.{ℕ, ◌+◌, ◌<◌, ◌≡◌, ◌≢◌, false, IsTrue, ◌↔◌, inl, inr, List, [], ◌∷◌, length, get_or, refl, sym, ap, subst, ◌∙◌, arith}
 use Rattle.std.specs.Global.{Vec}
 use Rattle.std.specs.Str.{bytes_eq}
 use Rattle.std.specs.Ordering.{nat_cmp, is_lt, is_eq}
-use Rattle.std.specs.declared.cmp.Ordering.TheVariants.{Less, Equal, Greater}
 use Rattle.std.specs.declared.result.Result.{Result}
 use Rattle.std.specs.declared.result.Result.TheVariants.{Ok, Err}
 use Rattle.std.specs.Cmp.Lexicographic.{slice_cmp}
@@ -55,11 +54,12 @@ missed (v ∷ vs) x i up h =
     let long = numbers-long (v ∷ vs) in
     let part = h (searchable_from_sorted nat_list_cmp_total (λ v. v.items) (v ∷ vs) x (ascend-to (v ∷ vs) up)) in
     times-nowhere x (numbers (v ∷ vs)) (λ k d l.
-      let at = get_or-map_within (λ v. v.items) (v ∷ vs) k v d (omega arith) in
-      ap (λ y. bytes_eq y x) at ∙ sym (is_eq-slice_cmp (get_or (v ∷ vs) k v).items x) ∙
-      elim (cases_lt k i) [
-        inl b ↦ ap is_eq (part.0 k v (omega arith) b)
-      | inr b ↦ ap is_eq (part.1 k v (omega arith) (omega arith)) ])
+    let at = get_or-map_within (λ v. v.items) (v ∷ vs) k v d (omega arith) in
+    ap (λ y. bytes_eq y x) at ∙ sym (is_eq-slice_cmp (get_or (v ∷ vs) k v).items x) ∙
+    elim (cases_lt k i) [
+      | inl b ↦ ap is_eq (part.0 k v (omega arith) b)
+      | inr b ↦ ap is_eq (part.1 k v (omega arith) (omega arith))
+    ])
 
 pub searched : (vs : List (Vec ℕ)) (x : List ℕ) (r : Result ℕ ℕ) → IsSearchInRange r (length vs) → Ascend (numbers vs) → IsBinarySearchResult (λ v. slice_cmp nat_cmp v.items x) vs r → IsTrue (is_ok r) ↔ (times x (numbers vs) ≢ 0)
 searched vs x (Ok i) l up h = (λ t. found vs x i l h, λ n. refl)

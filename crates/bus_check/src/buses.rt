@@ -4,6 +4,7 @@ ghost use Rattle.pil_ast.specs.Tree.{tuples as list_of, namespaces};
 ghost use Rattle.pil_ast.specs.Term.{bus};
 ghost use Rattle.pil_ast.specs.Columns.{Fits};
 ghost use Rattle.pil_ast.specs.Sound.{IsSound};
+ghost use Rattle.pil_ast.specs.Filled.{IsMadeOf};
 ghost use Rattle.pil_ast.specs.Holds.{Holds, all_sent, times};
 ghost use Rattle.row_check.specs.Breaks.{IsBreakOf};
 ghost use Rattle.row_check.specs.declared.broken.Broken.TheVariants.{Counts};
@@ -22,15 +23,17 @@ fn ordered_side<C: Columns>(
     pil: &Pil,
     columns: &C,
     lists: &[List],
+    inters: &mut RowValues,
 ) -> Result<TupleList, AllocError>
     requires sound { IsSound (namespaces pil.now) }
     requires fits { Fits (namespaces pil.now) (C.values columns.now) }
+    requires made { IsMadeOf (namespaces pil.now) inters.old }
     requires lists { All (IsListOf (namespaces pil.now)) (map list_of lists.now) }
-    ensures { IfOk result (λ side. IsOrdered (all_sent (namespaces pil.now) (C.values columns.now) (map list_of lists.now)) side) }
+    ensures made { IsMadeOf (namespaces pil.now) inters.new }
+    ensures ordered { IfOk result (λ side. IsOrdered (all_sent (namespaces pil.now) (C.values columns.now) (map list_of lists.now)) side) }
 {
-    let mut inters = RowValues::new(alloc, pil)?;
     let mut side = TupleList::new(alloc);
-    push_lists(alloc, pil, columns, lists, &mut inters, &mut side)?;
+    push_lists(alloc, pil, columns, lists, inters, &mut side)?;
     side.sort();
     Ok(side)
 }
@@ -71,8 +74,9 @@ pub fn check_is<C: Columns>(
     requires rights { All (IsListOf (namespaces pil.now)) (map list_of rights.now) }
     ensures { IfOk result (λ found. MatchOption found (Holds (namespaces pil.now) (C.values columns.now) (bus (map list_of lefts.now) (map list_of rights.now))) (λ broken. IsBreakOf (namespaces pil.now) (C.values columns.now) (bus (map list_of lefts.now) (map list_of rights.now)) line broken)) }
 {
-    let left = ordered_side(alloc, pil, columns, lefts)?;
-    let right = ordered_side(alloc, pil, columns, rights)?;
+    let mut inters = RowValues::new(alloc, pil)?;
+    let left = ordered_side(alloc, pil, columns, lefts, &mut inters)?;
+    let right = ordered_side(alloc, pil, columns, rights, &mut inters)?;
     match left.difference(&right) {
         None => Ok(None),
         Some(tuple) => {

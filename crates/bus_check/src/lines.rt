@@ -1,5 +1,5 @@
 //! The check of an `in` or an `is`, and of all lines.
-ghost use Rattle.std.specs.Prelude.{◌≡◌, ◌≤◌, ◌-◌, length, IfOk, MatchBool, MatchOption};
+ghost use Rattle.std.specs.Prelude.{◌≡◌, ◌≤◌, ◌-◌, ◌↔◌, length, IsTrue, IfOk, MatchOption};
 ghost use Rattle.pil_ast.specs.Tree.{line as line_of_item, namespaces};
 ghost use Rattle.pil_ast.specs.Term.{item_at};
 ghost use Rattle.pil_ast.specs.Columns.{Fits};
@@ -59,17 +59,11 @@ fn check_item<C: Columns>(
     }
 }
 
-/// Whether a line is an identity; else it is an `in` or an `is`.
-fn is_identity(pil: &Pil, line: u32) -> bool
-    requires sound { IsSound (namespaces pil.now) }
-    requires first { 1 ≤ line }
-    requires inside { line ≤ length (lines (namespaces pil.now)) }
-    ensures { MatchBool result (IsIdentity (item_at (lines (namespaces pil.now)) (line - 1))) (IsBus (item_at (lines (namespaces pil.now)) (line - 1))) }
+/// Whether an item is an identity.
+fn is_identity(item: &Item) -> bool
+    ensures { IsTrue result ↔ IsIdentity (line_of_item item.now) }
 {
-    match pil.line(line) {
-        Some(item) => matches!(item, Item::Identity { .. }),
-        None => false,
-    }
+    matches!(item, Item::Identity { .. })
 }
 
 /// Checks the line with this number.
@@ -85,10 +79,15 @@ fn check_line<C: Columns>(
     requires inside { line ≤ length (lines (namespaces pil.now)) }
     ensures { IfOk result (λ found. MatchOption found (Holds (namespaces pil.now) (C.values columns.now) (item_at (lines (namespaces pil.now)) (line - 1))) (λ broken. IsBreak (namespaces pil.now) (C.values columns.now) line broken)) }
 {
-    if is_identity(pil, line) {
-        check_rows(alloc, pil, columns, line)
-    } else {
-        check_bus(alloc, pil, columns, line)
+    match pil.line(line) {
+        Some(item) => {
+            if is_identity(item) {
+                check_rows(alloc, pil, columns, line)
+            } else {
+                check_bus(alloc, pil, columns, line)
+            }
+        }
+        None => Ok(None),
     }
 }
 

@@ -29,15 +29,17 @@ fn ordered_list<C: Columns>(
     pil: &Pil,
     columns: &C,
     list: &List,
+    inters: &mut RowValues,
 ) -> Result<TupleList, AllocError>
     requires sound { IsSound (namespaces pil.now) }
     requires fits { Fits (namespaces pil.now) (C.values columns.now) }
+    requires made { IsMadeOf (namespaces pil.now) inters.old }
     requires list { IsListOf (namespaces pil.now) (list_of list.now) }
-    ensures { IfOk result (λ tuples. IsOrdered (sent (namespaces pil.now) (C.values columns.now) (list_of list.now)) tuples) }
+    ensures made { IsMadeOf (namespaces pil.now) inters.new }
+    ensures ordered { IfOk result (λ tuples. IsOrdered (sent (namespaces pil.now) (C.values columns.now) (list_of list.now)) tuples) }
 {
-    let mut inters = RowValues::new(alloc, pil)?;
     let mut tuples = TupleList::new(alloc);
-    push_list(alloc, pil, columns, list, &mut inters, &mut tuples)?;
+    push_list(alloc, pil, columns, list, inters, &mut tuples)?;
     tuples.sort();
     Ok(tuples)
 }
@@ -136,8 +138,8 @@ pub fn check_in<C: Columns>(
     requires right { IsListOf (namespaces pil.now) (list_of right.now) }
     ensures { IfOk result (λ found. MatchOption found (Holds (namespaces pil.now) (C.values columns.now) (lookup (list_of left.now) (list_of right.now))) (λ broken. IsBreakOf (namespaces pil.now) (C.values columns.now) (lookup (list_of left.now) (list_of right.now)) line broken)) }
 {
-    let tuples = ordered_list(alloc, pil, columns, right)?;
     let mut inters = RowValues::new(alloc, pil)?;
+    let tuples = ordered_list(alloc, pil, columns, right, &mut inters)?;
     match first_missing(alloc, pil, columns, left, &tuples, &mut inters)? {
         None => Ok(None),
         Some(spot) => Ok(Some(Broken::At {

@@ -1,4 +1,4 @@
-use Rattle.std.proofs.Common.{◌≡◌, ◌<◌, ◌≤◌, ℕ, List, [], Bool, true, false, Option, Some, None, cond, Bor, length, get_or, slice_get, refl, sym, ap, subst, ◌∙◌, is_lt, nat_cmp, MatchOption}
+use Rattle.std.proofs.Common.{◌≡◌, ◌≤◌, ℕ, List, [], Bool, true, false, Option, Some, None, cond, Bor, length, get_or, slice_get, refl, sym, ap, subst, ◌∙◌, is_lt, nat_cmp, MatchOption}
 use Rattle.std.specs.Cmp.Lexicographic.{slice_cmp}
 use Rattle.std.specs.Global.{Vec}
 use Rattle.std.specs.Option.{option_copied}

@@ -1,5 +1,4 @@
-use Rattle.std.proofs.Common.{◌≡◌, ◌<◌, ◌≤◌, ◌+◌, Bool, true, false, Vec, ℕ, List, [], length, take, get_or, sym, ◌∙◌, ap, subst, below_more, arith}
-use Rattle.bus_check.specs.Bus.{numbers, PartAt}
+use Rattle.std.proofs.Common.{sym, ◌∙◌, below_more, arith}
 use Rattle.bus_check.proofs.Times.{numbers-at, numbers-long, unlike, alike}
 use Rattle.bus_check.proofs.order.parting.Goals as goal
 
@@ -14,8 +13,8 @@ returns-then-ne c =
       right = omega arith;
       same = c.loop-place.invariant;
       differ = λ d p q e.
-        unlike c.index-left-place.result.items c.index-right-place.result.items c.ne.result c.ne.ensures c.if-ne.true
-        (sym (numbers-at c.args.left.now c.loop-place.place c.index-left-place.result d (omega arith) c.index-left-place.is) ∙ e ∙ numbers-at c.args.right.now c.loop-place.place c.index-right-place.result d (omega arith) c.index-right-place.is);
+          unlike c.index-left-place.result.items c.index-right-place.result.items c.ne.result c.ne.ensures c.if-ne.true
+          (sym (numbers-at c.args.left.now c.loop-place.place c.index-left-place.result d (omega arith) c.index-left-place.is) ∙ e ∙ numbers-at c.args.right.now c.loop-place.place c.index-right-place.result d (omega arith) c.index-right-place.is);
     }
 
 pub loop-place-preserved : goal.loop-place-preserved

@@ -1,4 +1,4 @@
-use Rattle.std.proofs.Common.{◌≡◌, flat_map, sym, ◌∙◌, arith}
+use Rattle.std.proofs.Common.{◌≡◌, flat_map, ◌∙◌, arith}
 use Rattle.std.specs.List.{range_with_len}
 use Rattle.pil_ast.specs.Tree.{namespaces, tuples as list_of}
 use Rattle.pil_ast.specs.Holds.{row_sent}

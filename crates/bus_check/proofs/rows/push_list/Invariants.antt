@@ -1,5 +1,4 @@
-use Rattle.std.proofs.Common.{◌≡◌, ◌++◌, flat_map}
-use Rattle.std.specs.List.{range_with_len}
+use Rattle.std.proofs.Common.{◌≡◌, ◌++◌}
 use Rattle.pil_ast.specs.Tree.{namespaces, tuples as list_of}
 use Rattle.pil_ast.specs.Filled.{IsMadeOf}
 use Rattle.pil_ast.specs.Holds.{by_rows, row_sent}

@@ -1,6 +1,4 @@
-use Rattle.std.proofs.Common.{◌≡◌, ◌<◌, map, length, sym, ap, subst, ◌∙◌, refl}
-use Rattle.std.proofs.lemmas.List.{get_or-map}
-use Rattle.std.proofs.lemmas.List.Elements.{All-get_or}
+use Rattle.std.proofs.Common.{sym, ap, subst, ◌∙◌}
 use Rattle.pil_ast.specs.Tree.{term, namespaces}
 use Rattle.pil_ast.specs.Sound.{IsTerm}
 use Rattle.pil_ast.specs.Value.{value_in}

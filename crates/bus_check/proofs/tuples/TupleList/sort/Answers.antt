@@ -1,4 +1,4 @@
-use Rattle.std.proofs.Common.{◌≡◌, ◌∙◌, ap}
+use Rattle.std.proofs.Common.{◌∙◌, ap}
 use Rattle.pil_ast.specs.Holds.{times}
 use Rattle.bus_check.proofs.Times.{times-sorted}
 use Rattle.bus_check.proofs.Sorted.{ascend-from}
