@@ -4,3 +4,4 @@ pub mod Sorted
 pub mod Places
 pub mod Sent
 pub mod InText
+pub mod Readable

@@ -10,3 +10,6 @@ mod rows;
 mod tuples;
 
 pub use lines::{check_bus, first_broken};
+
+#[cfg(test)]
+mod tests;

@@ -102,7 +102,8 @@ pub fn first_broken<C: Columns>(
     requires fits { Fits (namespaces pil.now) (C.values columns.now) }
     ensures { IfOk result (λ found. MatchOption found (AllHold (namespaces pil.now) (C.values columns.now)) (λ broken. IsFirstBroken (namespaces pil.now) (C.values columns.now) broken)) }
 {
-    for before in 0..pil.lines() {
+    let count = pil.lines();
+    for before in 0..count {
         match check_line(alloc, pil, columns, before + 1)? {
             Some(broken) => return Ok(Some(broken)),
             None => {}

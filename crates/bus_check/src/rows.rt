@@ -161,7 +161,8 @@ pub fn push_list<C: Columns>(
     ensures made { IsMadeOf (namespaces pil.now) inters.new }
     ensures sent { OnOk result (tuples.new ≡ tuples.old ++ sent (namespaces pil.now) (C.values columns.now) (list_of list.now)) }
 {
-    for instance in 0..columns.instances(list.space) {
+    let instances = columns.instances(list.space);
+    for instance in 0..instances {
         push_instance(alloc, pil, columns, list, instance, inters, tuples)?;
     }
     Ok(())

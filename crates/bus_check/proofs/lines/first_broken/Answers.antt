@@ -7,5 +7,5 @@ pub returns : goal.returns
 returns g c =
     all-hold (namespaces c.args.pil.now) (g.C.Columns.values c.args.columns.now) (λ k l.
     let past = c.loop-before-test.false in
-    let end = c.lines-before-end.ensures in
+    let end = c.lines-count.ensures in
     c.loop-before.invariant k (omega arith))

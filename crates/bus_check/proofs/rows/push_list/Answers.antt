@@ -15,5 +15,5 @@ pub returns-clause-sent : goal.returns-clause-sent
 returns-clause-sent g c =
     let past = c.loop-instance-test.false in
     let end = c.loop-instance.auto.instance-end in
-    let all : c.loop-instance.instance ≡ c.instances-instance-end.result = omega arith in
-    sent-whole (namespaces c.args.pil.now) (g.C.Columns.values c.args.columns.now) (list_of c.args.list.now) c.loop-instance.instance c.args.tuples.now c.loop-instance.tuples (all ∙ c.instances-instance-end.ensures) c.loop-instance.invariant.1
+    let all : c.loop-instance.instance ≡ c.instances-instances.result = omega arith in
+    sent-whole (namespaces c.args.pil.now) (g.C.Columns.values c.args.columns.now) (list_of c.args.list.now) c.loop-instance.instance c.args.tuples.now c.loop-instance.tuples (all ∙ c.instances-instances.ensures) c.loop-instance.invariant.1
