@@ -1,8 +1,8 @@
 -- The small texts of the tests can be read.
-use Rattle.std.proofs.Common.{ℕ, zero, suc, ◌+◌, ◌<◌, ◌≤◌, ◌≡◌, false, List, [], ◌∷◌, ◌++◌, None, map, refl, sym, ap, ◌∙◌, arith, All}
+use Rattle.std.proofs.Common.{ℕ, zero, suc, ◌<◌, ◌≡◌, false, List, [], ◌∷◌, ◌++◌, None, map, refl, ap, ◌∙◌, arith, All}
 use Rattle.std.proofs.lemmas.List.Elements.{All-nil, All-cons}
-use Rattle.pil_ast.specs.Term.{Line, col, commit, Namespace, inter_at, space_at}
-use Rattle.pil_ast.specs.Sound.{IsItem, IsList, IsRanked, IsSpace, IsSound, IsTerm, NamesOnly}
+use Rattle.pil_ast.specs.Term.{Line, col, commit, inter_at, space_at}
+use Rattle.pil_ast.specs.Sound.{IsItem, IsList, IsSpace, IsSound, IsTerm, NamesOnly}
 use Rattle.bus_check.specs.Small.{small_left, small_right, small_is, small_in, small_items, small_text}
 
 all-one : {X : Type 0} (P : X → Type 0) (x : X) → P x → All P (x ∷ [])

@@ -132,12 +132,14 @@ fn unequal_counts(rt: HostRuntime) -> Result<(), Fail> {
     };
     assert!(rt; first_of_in(rt.alloc(), &cells)?.is_none());
     match first_of_is(rt.alloc(), &cells)? {
-        Some(Broken::Counts {
-            line,
-            tuple,
-            left,
-            right,
-        }) => {
+        Some(
+            Broken::Counts {
+                line,
+                tuple,
+                left,
+                right,
+            },
+        ) => {
             assert_eq!(rt; line, 1);
             assert_eq!(rt; tuple.as_slice(), [9].as_slice());
             assert_eq!(rt; (left, right), (1, 2));
@@ -154,11 +156,13 @@ fn missing_tuple(rt: HostRuntime) -> Result<(), Fail> {
         cells: [7, 5, 5, 9, 0, 1, 4, 3, 9, 5, 1, 1],
     };
     match first_of_in(rt.alloc(), &cells)? {
-        Some(Broken::At {
-            line,
-            instance,
-            row,
-        }) => {
+        Some(
+            Broken::At {
+                line,
+                instance,
+                row,
+            },
+        ) => {
             assert_eq!(rt; (line, instance, row), (1, 1, 0));
             Ok(())
         }

@@ -1,4 +1,4 @@
-use Rattle.std.proofs.Common.{◌≡◌, ◌∙◌, sym, ap, subst}
+use Rattle.std.proofs.Common.{◌∙◌, sym, ap, subst}
 use Rattle.pil_ast.specs.Sound.{IsSound}
 use Rattle.bus_check.specs.Small.{small_text}
 use Rattle.bus_check.proofs.Readable.{sound-in}

@@ -1,6 +1,5 @@
 use Rattle.pil_ast.specs.Tree.{line}
-use Rattle.std.proofs.Common.{◌≡◌, ◌∙◌, ◌∷◌, [], ap, map}
-use Rattle.bus_check.specs.Small.{small_items}
+use Rattle.std.proofs.Common.{◌∙◌}
 use Rattle.bus_check.proofs.Readable.{four, same_items}
 use Rattle.bus_check.proofs.tests.items.Goals as goal
 
