@@ -1,0 +1,15 @@
+//! Whether an `in` or an `is` of a constraint text holds of the tables, where it is broken first, and
+//! which of all lines is the first broken one.
+#![tactic(auto)]
+
+mod buses;
+mod lines;
+mod lookups;
+mod order;
+mod rows;
+mod tuples;
+
+pub use lines::{check_bus, first_broken};
+
+#[cfg(test)]
+mod tests;
