@@ -1,5 +1,5 @@
 -- Intermediates that depend on themselves.
-use Rattle.std.specs.Prelude.{ℕ, ◌≤◌, List}
+use Rattle.std.specs.Prelude.{ℕ, ◌≤◌, ◌≡◌, ◌↔◌, Bool, true, List, length, Some, slice_get}
 use Rattle.pil_ast.specs.Term.{Line, inter_at}
 use Rattle.pil_ast.specs.Sound.{Names}
 
@@ -15,3 +15,8 @@ IsOnCycle items k = DependsOn items k k
 pub record IsLeastOnCycle (items : List Line) (k : ℕ) : Type 0 where
   pub on_cycle : IsOnCycle items k
   pub least : (j : ℕ) → IsOnCycle items j → k ≤ j
+
+-- each flag tells whether its item depends on itself
+pub record TellCycles (items : List Line) (flags : List Bool) : Type 0 where
+  pub long : length flags ≡ length items
+  pub each : (k : ℕ) → (slice_get flags k ≡ Some true) ↔ IsOnCycle items k

@@ -56,6 +56,11 @@ is_unknown Unknown = true
 is_unknown Free = false
 is_unknown Cyclic = false
 
+abbrev pub is_cyclic : Verdict → Bool
+is_cyclic Unknown = false
+is_cyclic Free = false
+is_cyclic Cyclic = true
+
 -- how many numbers aren't judged yet
 abbrev pub unknown_count : List Verdict → ℕ
 unknown_count verdicts = count_by is_unknown verdicts

@@ -1,10 +1,9 @@
-//! The least intermediate that depends on itself.
-ghost use Rattle.std.specs.Prelude.{◌≡◌, ◌<◌, ◌^◌, ℕ, map, length, IfOk, MatchOption};
+//! The intermediates that depend on themselves.
+ghost use Rattle.std.specs.Prelude.{◌≡◌, ◌<◌, ◌^◌, map, length, IfOk};
 ghost use Rattle.pil_ast.specs.Tree.{line};
-ghost use Rattle.pil_ast.specs.Sound.{IsAcyclic};
 ghost use Rattle.pil_ast.specs.Order.{NamesInside};
-ghost use Rattle.pil_cycles.specs.Cycles.{IsLeastOnCycle};
-ghost use Rattle.pil_cycles.specs.Verdicts.{IsCyclic};
+ghost use Rattle.pil_cycles.specs.Cycles.{TellCycles};
+ghost use Rattle.pil_cycles.specs.Verdicts.{is_cyclic};
 
 use crate::components::{Verdict, judge};
 use crate::finish::finished;
@@ -12,28 +11,27 @@ use crate::users::users_of;
 use pil_ast::Item;
 use std::alloc::{AllocError, Global};
 
-/// The first that is Cyclic.
-fn first_cyclic(verdicts: &[Verdict]) -> Option<u32>
-    requires { length verdicts.now < 2 ^ 32 }
-    ensures { MatchOption result ((k : ℕ) → ¬ IsCyclic verdicts.now k) (λ k. IsCyclic verdicts.now k × ((j : ℕ) → j < k → ¬ IsCyclic verdicts.now j)) }
+/// Which verdicts are Cyclic.
+fn cyclic_flags(alloc: Global, verdicts: &[Verdict]) -> Result<Vec<bool>, AllocError>
+    ensures { IfOk result (λ flags. flags.items ≡ map is_cyclic verdicts.now) }
 {
-    for item in 0..verdicts.len() as u32 {
-        if matches!(verdicts[item as usize], Verdict::Cyclic) {
-            return Some(item);
-        }
+    let mut flags = Vec::new(alloc);
+    for verdict in verdicts {
+        flags.push(matches!(verdict, Verdict::Cyclic))?;
     }
-    None
+    Ok(flags)
 }
 
-/// The least item that depends on itself: None exactly where none does. It takes time in proportion to
-/// the size of the items' expressions.
-pub fn least_on_cycle(alloc: Global, items: &[Item]) -> Result<Option<u32>, AllocError>
+/// For each item whether it depends on itself. It takes time in proportion to the size of the items'
+/// expressions.
+pub fn on_cycles(alloc: Global, items: &[Item]) -> Result<Vec<bool>, AllocError>
     requires few { length items.now < 2 ^ 32 }
     requires inside { NamesInside (map line items.now) }
-    ensures { IfOk result (λ found. MatchOption found (IsAcyclic (map line items.now)) (λ k. IsLeastOnCycle (map line items.now) k)) }
+    ensures { IfOk result (λ flags. TellCycles (map line items.now) flags.items) }
 {
     let order = finished(alloc, items)?;
     let users = users_of(alloc, items)?;
     let verdicts = judge(alloc, &users, order.as_slice())?;
-    Ok(first_cyclic(&verdicts))
+    let flags = cyclic_flags(alloc, &verdicts)?;
+    Ok(flags)
 }

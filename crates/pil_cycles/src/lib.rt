@@ -7,7 +7,7 @@ mod finish;
 mod laws;
 mod users;
 
-pub use cycles::least_on_cycle;
+pub use cycles::on_cycles;
 pub use laws::{cycles_are_decided, ranked_have_no_cycle, without_cycle_are_ranked};
 
 #[cfg(test)]

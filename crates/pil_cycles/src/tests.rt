@@ -4,7 +4,7 @@ ghost use Rattle.pil_ast.specs.Tree.{term, line};
 ghost use Rattle.pil_ast.specs.Sound.{NamesOnly};
 ghost use Rattle.pil_ast.specs.Order.{NamesInside};
 
-use crate::least_on_cycle;
+use crate::on_cycles;
 use pil_ast::{Expr, Item, add, inter, public};
 use sqlite_items::Items;
 use std::alloc::{AllocError, Global};
@@ -38,9 +38,11 @@ fn namespace(alloc: Global, count: u32, edges: &[(u32, u32)]) -> Result<Items<It
     Ok(items)
 }
 
+/// The least item that depends on itself.
 fn least(alloc: Global, count: u32, edges: &[(u32, u32)]) -> Result<Option<u32>, AllocError> {
     let items = namespace(alloc, count, edges)?;
-    least_on_cycle(alloc, items.as_slice())
+    let flags = on_cycles(alloc, items.as_slice())?;
+    Ok(flags.iter().position(|flag| *flag).map(|item| item as u32))
 }
 
 /// An edge from each item to the next.

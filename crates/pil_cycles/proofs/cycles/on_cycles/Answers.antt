@@ -1,11 +1,12 @@
 use Rattle.std.proofs.Common.{map, length, sym, subst}
 use Rattle.std.proofs.lemmas.List.{length-map}
 use Rattle.pil_ast.specs.Tree.{line}
+use Rattle.pil_cycles.specs.Cycles.{TellCycles}
 use Rattle.pil_cycles.specs.Users.{AreUsers, Uses}
 use Rattle.pil_cycles.specs.Finish.{IsFinished}
 use Rattle.pil_cycles.specs.Verdicts.{AreVerdicts}
-use Rattle.pil_cycles.proofs.Least.{users_inside, finished_users, answered}
-use Rattle.pil_cycles.proofs.cycles.least_on_cycle.Goals as goal
+use Rattle.pil_cycles.proofs.Least.{users_inside, finished_users, told}
+use Rattle.pil_cycles.proofs.cycles.on_cycles.Goals as goal
 
 pub judge-requires-clause-users : goal.judge-requires-clause-users
 judge-requires-clause-users c =
@@ -18,5 +19,6 @@ judge-requires-clause-order c =
 
 pub returns : goal.returns
 returns c =
-    answered (map line c.args.items.now) c.deref.result.now c.deref-2.result.now c.first_cyclic.result (subst (λ u. AreUsers (map line c.args.items.now) u) (sym c.deref.ensures.value) c.in_ok-users.ensures)
-    (subst (λ v. AreVerdicts (Uses c.deref.result.now) (length c.deref.result.now) v) (sym c.deref-2.ensures.value) c.in_ok-verdicts.ensures) c.requires.inside c.first_cyclic.ensures
+    subst (λ flags. TellCycles (map line c.args.items.now) flags) (sym c.in_ok-flags.ensures)
+    (told (map line c.args.items.now) c.deref.result.now c.deref-2.result.now (subst (λ u. AreUsers (map line c.args.items.now) u) (sym c.deref.ensures.value) c.in_ok-users.ensures)
+    (subst (λ v. AreVerdicts (Uses c.deref.result.now) (length c.deref.result.now) v) (sym c.deref-2.ensures.value) c.in_ok-verdicts.ensures))
