@@ -1,0 +1,6 @@
+pub mod Outline
+pub mod Finding
+pub mod Wrongs
+pub mod Least
+pub mod Shown
+pub mod Directory
