@@ -194,17 +194,21 @@ references (a ⊕ b) = references a ++ references b
 references (a ⊖ b) = references a ++ references b
 references (a ⊗ b) = references a ++ references b
 
--- the namespace of the first polynomial, or s where there is none or it is in none
-abbrev pub home_of_first : Outline → ℕ → List Reference → ℕ
-home_of_first o s [] = s
-home_of_first o s (r ∷ rs) = unwrap_or (home_named o s r.space) s
+-- the namespace of a polynomial, or s where it is in none
+abbrev pub home_or : Outline → ℕ → Reference → ℕ
+home_or o s r = unwrap_or (home_named o s r.space) s
 
+abbrev pub first_home : Outline → ℕ → List Reference → Option ℕ
+first_home o s [] = None
+first_home o s (r ∷ rs) = Some (home_or o s r)
+
+-- the namespace of the first polynomial, or s where there is none
 abbrev pub home_of_terms : Outline → ℕ → List Term → ℕ
-home_of_terms o s es = home_of_first o s (flat_map references es)
+home_of_terms o s es = unwrap_or (first_home o s (flat_map references es)) s
 
 -- the polynomials of another namespace than m, in what stands in the namespace s
 abbrev pub stray : Outline → ℕ → ℕ → Reference → List ℕ
-stray o s m r = unless (nat_eq (unwrap_or (home_named o s r.space) s) m) r.name.at
+stray o s m r = unless (nat_eq (home_or o s r) m) r.name.at
 
 abbrev pub strays : Outline → ℕ → ℕ → List Term → List ℕ
 strays o s m es = flat_map (stray o s m) (flat_map references es)
@@ -231,8 +235,11 @@ abbrev pub wrong_length : Option Number → List ℕ
 wrong_length None = []
 wrong_length (Some n) = unless (nat_lt 0 n.value && nat_le n.value 4096) n.at
 
+abbrev pub other_width : ℕ → Tuple → List ℕ
+other_width n l = unless (nat_eq (length l.entries) n) l.at
+
 abbrev pub other_widths : ℕ → List Tuple → List ℕ
-other_widths n ls = flat_map (λ l. unless (nat_eq (length l.entries) n) l.at) ls
+other_widths n ls = flat_map (other_width n) ls
 
 abbrev pub width_of_first : List Tuple → ℕ
 width_of_first [] = 0
@@ -240,7 +247,7 @@ width_of_first (l ∷ ls) = length l.entries
 
 abbrev pub wrong_widths_of : Draft → List ℕ
 wrong_widths_of (column k d) = wrong_length d.length
-wrong_widths_of (inside a b) = other_widths (length a.entries) (b ∷ [])
+wrong_widths_of (inside a b) = other_width (length a.entries) b
 wrong_widths_of (against ls rs) = other_widths (width_of_first ls) ls ++ other_widths (width_of_first ls) rs
 wrong_widths_of _ = []
 

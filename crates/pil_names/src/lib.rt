@@ -3,10 +3,20 @@
 #![tactic(auto)]
 
 mod directory;
+mod least;
 mod lookup;
+mod mixed;
 mod names;
 mod outline;
+mod rows;
+mod unknown;
+mod widths;
 
 pub use directory::Directory;
+pub use least::least_is_least;
+pub use mixed::{home_of_identity, home_of_list, least_mixed};
 pub use names::Names;
 pub use outline::{Constant, Draft, Home, Outline};
+pub use rows::{least_bad_row, rows_of_home};
+pub use unknown::least_unknown;
+pub use widths::least_wrong_width;
