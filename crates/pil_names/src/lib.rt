@@ -3,10 +3,12 @@
 #![tactic(auto)]
 
 mod directory;
+mod least;
 mod lookup;
 mod names;
 mod outline;
+mod register;
 
-pub use directory::Directory;
+pub use directory::{Directory, read_directory};
 pub use names::Names;
-pub use outline::{Constant, Draft, Home, Outline};
+pub use outline::{Constant, Draft, Home, Outline, read_outline};

@@ -1,0 +1,4 @@
+pub mod Leasts
+pub mod Numbers
+pub mod Places
+pub mod Each
