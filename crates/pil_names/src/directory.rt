@@ -10,9 +10,7 @@ ghost use Rattle.pil_names.specs.Shown.{outlined, home};
 use crate::least::lesser;
 use crate::names::Names;
 use crate::outline::{Home, Outline};
-use crate::register::{
-    register_constants, register_homes, register_polynomials, register_publics,
-};
+use crate::register::{register_constants, register_homes, register_polynomials, register_publics};
 use std::alloc::{AllocError, Global};
 
 /// The declarations by name: constants, namespaces, publics, and the polynomials of each namespace.
@@ -26,10 +24,7 @@ pub struct Directory {
 
 /// The polynomials of each namespace, and the least place of a name that stands among the earlier
 /// ones of its namespace.
-fn polynomials_of(
-    alloc: Global,
-    homes: &[Home],
-) -> Result<(Vec<Names>, Option<u64>), AllocError>
+fn polynomials_of(alloc: Global, homes: &[Home]) -> Result<(Vec<Names>, Option<u64>), AllocError>
     requires { (s : ℕ) → length (home_at (map home homes.now) s).items < 2 ^ 32 }
     ensures { IfOk result (λ x. ListsEach x.0.items (map home homes.now) × (x.1 ≡ least (flat_map (λ h. repeated_among (polynomial_entries h)) (map home homes.now)))) }
 {

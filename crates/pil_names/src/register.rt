@@ -38,12 +38,7 @@ impl Register {
     }
 
     /// Adds the name of an item that is a polynomial.
-    fn add_polynomial(
-        &mut self,
-        alloc: Global,
-        item: &Draft,
-        number: u32,
-    ) -> Result<(), AllocError>
+    fn add_polynomial(&mut self, alloc: Global, item: &Draft, number: u32) -> Result<(), AllocError>
         ensures { OnOk result ((es : List Entry) → Registers self.old es → Registers self.new (es ++ polynomials_from number (draft item.now ∷ []))) }
     {
         match item {

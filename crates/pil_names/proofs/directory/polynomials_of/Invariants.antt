@@ -10,5 +10,5 @@ use Rattle.pil_names.proofs.directory.polynomials_of.Given as goal
 abbrev pub invariant-loop-home : goal.invariant-loop-home
 invariant-loop-home l = record {
   listed : ListsFirst l.names.items (map home l.homes) l.home-index;
-  repeated : lesser l.repeated (least (flat_map (λ h. repeated_among (polynomial_entries h)) (map home (drop l.home-index l.homes)))) ≡ least (flat_map (λ h. repeated_among (polynomial_entries h)) (map home l.homes))
+  repeated : lesser l.repeated (least (flat_map (λ h. repeated_among (polynomial_entries h)) (map home (drop l.home-index l.homes)))) ≡ least (flat_map (λ h. repeated_among (polynomial_entries h)) (map home l.homes));
 }
