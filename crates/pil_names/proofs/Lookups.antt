@@ -5,11 +5,6 @@ use Rattle.pil_names.specs.declared.outline.Home as H
 use Rattle.pil_names.specs.Outline.{Draft, against, Home, home_at, draft_at, constant_at}
 use Rattle.pil_names.specs.Shown.{named, home}
 
-pub constant-within : (cs : List C.Constant) (k : ℕ) (c : C.Constant) → slice_get cs k ≡ Some c → constant_at (map named cs) k ≡ named c
-constant-within [] k c e = search rules
-constant-within (d ∷ ds) zero c e = ap (λ o. named (unwrap_or o d)) e
-constant-within (d ∷ ds) (suc k) c e = constant-within ds k c e
-
 pub constant-past : (cs : List C.Constant) (k : ℕ) → slice_get cs k ≡ None → constant_at (map named cs) k ≡ constant_at [] k
 constant-past [] k e = refl
 constant-past (d ∷ ds) zero e = search rules
@@ -25,11 +20,6 @@ home-missing [] s e = refl
 home-missing (g ∷ gs) zero e = search rules
 home-missing (g ∷ gs) (suc s) e = home-missing gs s e
 
-pub home-past : (hs : List Home) (s : ℕ) → length hs ≤ s → (home_at hs s).items ≡ []
-home-past [] s l = refl
-home-past (h ∷ hs) zero l = absurd (omega arith)
-home-past (h ∷ hs) (suc s) l = home-past hs s (omega arith)
-
 pub draft-within : (ds : List Draft) (k : ℕ) (d : Draft) → slice_get ds k ≡ Some d → draft_at ds k ≡ d
 draft-within [] k d e = search rules
 draft-within (c ∷ ds) zero d e = ap (λ o. unwrap_or o c) e
@@ -39,6 +29,3 @@ pub draft-past : (ds : List Draft) (k : ℕ) → slice_get ds k ≡ None → dra
 draft-past [] k e = refl
 draft-past (c ∷ ds) zero e = search rules
 draft-past (c ∷ ds) (suc k) e = draft-past ds k e
-
-pub at-least : (s n : ℕ) → false ≡ ltb s n → n ≤ s
-at-least s n e = grind (arith, tests)

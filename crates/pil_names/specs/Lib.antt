@@ -4,3 +4,4 @@ pub mod Wrongs
 pub mod Least
 pub mod Shown
 pub mod Directory
+pub mod Gathering

@@ -8,15 +8,16 @@ mod lookup;
 mod mixed;
 mod names;
 mod outline;
+mod register;
 mod rows;
 mod unknown;
 mod widths;
 
-pub use directory::Directory;
+pub use directory::{Directory, read_directory};
 pub use least::least_is_least;
 pub use mixed::{home_of_identity, home_of_list, least_mixed};
 pub use names::Names;
-pub use outline::{Constant, Draft, Home, Outline};
+pub use outline::{Constant, Draft, Home, Outline, read_outline};
 pub use rows::{least_bad_row, rows_of_home};
 pub use unknown::least_unknown;
 pub use widths::least_wrong_width;

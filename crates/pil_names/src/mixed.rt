@@ -130,7 +130,7 @@ fn stray(
 }
 
 /// The first polynomial of an expression that is of another namespace than `wanted`.
-#[tactic(auto, using(crate::proofs::Leasts::least_append, crate::proofs::Leasts::least_flat_append, crate::proofs::Leasts::least_one))]
+#[tactic(auto, using(crate::proofs::Passing::joined))]
 fn stray_in_expr(
     outline: &Outline,
     directory: &Directory,
@@ -186,7 +186,7 @@ fn stray_in_exprs(
 }
 
 /// The first polynomial of a selector that is of another namespace than `wanted`.
-#[tactic(auto, using(crate::proofs::Leasts::least_append, crate::proofs::Leasts::least_flat_append, crate::proofs::Leasts::least_one))]
+#[tactic(auto, using(crate::proofs::Passing::joined))]
 fn stray_in_selector(
     outline: &Outline,
     directory: &Directory,
@@ -205,7 +205,7 @@ fn stray_in_selector(
 }
 
 /// The first polynomial of a list that is of another namespace than the list's first.
-#[tactic(auto, using(crate::proofs::Leasts::least_append, crate::proofs::Leasts::least_flat_append, crate::proofs::Leasts::least_one))]
+#[tactic(auto, using(crate::proofs::Passing::joined))]
 fn mixed_in_list(
     outline: &Outline,
     directory: &Directory,
@@ -240,7 +240,7 @@ fn mixed_in_lists(
 }
 
 /// The first polynomial of an identity that is of another namespace than the identity's first.
-#[tactic(auto, using(crate::proofs::Leasts::least_append, crate::proofs::Leasts::least_flat_append, crate::proofs::Leasts::least_one))]
+#[tactic(auto, using(crate::proofs::Passing::joined))]
 fn mixed_in_identity(
     outline: &Outline,
     directory: &Directory,
@@ -258,7 +258,7 @@ fn mixed_in_identity(
 }
 
 /// The first polynomial of an item of the namespace `home` that is of another namespace than it may be.
-#[tactic(auto, using(crate::proofs::Leasts::least_append, crate::proofs::Leasts::least_flat_append, crate::proofs::Leasts::least_one))]
+#[tactic(auto, using(crate::proofs::Passing::joined))]
 fn mixed_in_draft(outline: &Outline, directory: &Directory, home: u32, item: Draft) -> Option<u64>
     requires { IsDirectory (outlined outline.now) directory.now }
     ensures { result ≡ least (mixed_in_draft (outlined outline.now) home (draft item.entry)) }

@@ -130,7 +130,7 @@ fn bad_size_in_homes(outline: &Outline, directory: &Directory) -> Option<u64>
 
 /// The least place of a size of no rows or of more than 2^24, or of a public's row that isn't below the
 /// rows of its polynomial's namespace.
-#[tactic(auto, using(crate::proofs::Leasts::least_append, crate::proofs::Leasts::least_flat_append, crate::proofs::Leasts::least_one))]
+#[tactic(auto, using(crate::proofs::Passing::joined))]
 pub fn least_bad_row(outline: &Outline, directory: &Directory) -> Option<u64>
     requires listed { IsDirectory (outlined outline.now) directory.now }
     requires few { IsCountable (outlined outline.now) }

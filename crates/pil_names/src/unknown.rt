@@ -167,7 +167,7 @@ fn unknown_published(
 }
 
 /// The first unknown name of an expression in the namespace `home`.
-#[tactic(auto, using(crate::proofs::Leasts::least_append, crate::proofs::Leasts::least_flat_append, crate::proofs::Leasts::least_one))]
+#[tactic(auto, using(crate::proofs::Passing::joined))]
 fn unknown_in_expr(outline: &Outline, directory: &Directory, home: u32, expr: &Expr) -> Option<u64>
     requires { IsDirectory (outlined outline.now) directory.now }
     ensures { result ≡ least (unknown_in_term (outlined outline.now) home (term expr.now)) }
@@ -216,7 +216,7 @@ fn unknown_in_exprs(
 }
 
 /// The first unknown name of a selector.
-#[tactic(auto, using(crate::proofs::Leasts::least_append, crate::proofs::Leasts::least_flat_append, crate::proofs::Leasts::least_one))]
+#[tactic(auto, using(crate::proofs::Passing::joined))]
 fn unknown_in_selector(
     outline: &Outline,
     directory: &Directory,
@@ -234,7 +234,7 @@ fn unknown_in_selector(
 }
 
 /// The first unknown name of a list.
-#[tactic(auto, using(crate::proofs::Leasts::least_append, crate::proofs::Leasts::least_flat_append, crate::proofs::Leasts::least_one))]
+#[tactic(auto, using(crate::proofs::Passing::joined))]
 fn unknown_in_list(
     outline: &Outline,
     directory: &Directory,
@@ -268,7 +268,7 @@ fn unknown_in_lists(
 }
 
 /// The first unknown name of a public's reference.
-#[tactic(auto, using(crate::proofs::Leasts::least_append, crate::proofs::Leasts::least_flat_append, crate::proofs::Leasts::least_one))]
+#[tactic(auto, using(crate::proofs::Passing::joined))]
 fn unknown_in_public(
     outline: &Outline,
     directory: &Directory,
@@ -293,7 +293,7 @@ fn unknown_in_public(
 }
 
 /// The first unknown name in the expressions of an item.
-#[tactic(auto, using(crate::proofs::Leasts::least_append, crate::proofs::Leasts::least_flat_append, crate::proofs::Leasts::least_one))]
+#[tactic(auto, using(crate::proofs::Passing::joined))]
 fn unknown_in_terms(
     outline: &Outline,
     directory: &Directory,
@@ -326,7 +326,7 @@ fn unknown_in_terms(
 }
 
 /// The first unknown name of an item of the namespace `home`.
-#[tactic(auto, using(crate::proofs::Leasts::least_append, crate::proofs::Leasts::least_flat_append, crate::proofs::Leasts::least_one))]
+#[tactic(auto, using(crate::proofs::Passing::joined))]
 fn unknown_in_draft(
     outline: &Outline,
     directory: &Directory,
@@ -401,7 +401,7 @@ fn unknown_in_sizes(outline: &Outline, directory: &Directory) -> Option<u64>
 
 /// The least place at which a name isn't declared, or not yet; an index isn't below the length; an array
 /// stands without index, or another polynomial with one; or a public names what it may not.
-#[tactic(auto, using(crate::proofs::Leasts::least_append, crate::proofs::Leasts::least_flat_append, crate::proofs::Leasts::least_one))]
+#[tactic(auto, using(crate::proofs::Passing::joined))]
 pub fn least_unknown(outline: &Outline, directory: &Directory) -> Option<u64>
     requires listed { IsDirectory (outlined outline.now) directory.now }
     requires few { IsCountable (outlined outline.now) }

@@ -49,7 +49,7 @@ fn width_of_first(lists: &[ExprList]) -> usize
 }
 
 /// The wrong length or width of an item.
-#[tactic(auto, using(crate::proofs::Leasts::least_append, crate::proofs::Leasts::least_flat_append, crate::proofs::Leasts::least_one))]
+#[tactic(auto, using(crate::proofs::Passing::joined))]
 fn wrong_widths_of(item: Draft) -> Option<u64>
     ensures { result ≡ least (wrong_widths_of (draft item.entry)) }
 {

@@ -1,4 +1,4 @@
-use Rattle.pil_names.proofs.Leasts.{is_least}
+use Rattle.pil_names.proofs.Lowest.{is_least}
 use Rattle.pil_names.proofs.least.least_is_least.Goals as goal
 
 pub returns : goal.returns

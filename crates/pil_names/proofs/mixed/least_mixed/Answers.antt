@@ -5,7 +5,7 @@ use Rattle.pil_names.specs.Outline.{Draft, Home}
 use Rattle.pil_names.specs.Wrongs.{mixed_in_draft}
 use Rattle.pil_names.specs.Shown.{draft, home, outlined}
 use Rattle.pil_names.specs.Least.{least}
-use Rattle.pil_names.proofs.Leasts.{each_step, each_end}
+use Rattle.pil_names.proofs.Passing.{each_step, each_end}
 use Rattle.pil_names.proofs.mixed.least_mixed.Goals as goal
 
 pub overflow_add-number : goal.overflow_add-number

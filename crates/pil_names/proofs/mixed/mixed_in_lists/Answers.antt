@@ -3,7 +3,7 @@ use Rattle.pil_syntax.specs.Shown.{tuple}
 use Rattle.pil_names.specs.Wrongs.{mixed_in, terms_of_list}
 use Rattle.pil_names.specs.Shown.{outlined}
 use Rattle.pil_syntax.specs.Tree.{Tuple}
-use Rattle.pil_names.proofs.Leasts.{flat_step, flat_end}
+use Rattle.pil_names.proofs.Passing.{flat_step, flat_end}
 use Rattle.pil_names.proofs.mixed.mixed_in_lists.Goals as goal
 
 pub loop-list-preserved : goal.loop-list-preserved

@@ -1,7 +1,7 @@
 use Rattle.std.proofs.Common.{refl}
 use Rattle.pil_names.specs.Wrongs.{bad_row_of_draft}
 use Rattle.pil_names.specs.Shown.{draft, outlined}
-use Rattle.pil_names.proofs.Leasts.{flat_step, flat_end}
+use Rattle.pil_names.proofs.Passing.{flat_step, flat_end}
 use Rattle.pil_names.proofs.rows.bad_row_in_items.Goals as goal
 
 pub loop-item-preserved : goal.loop-item-preserved

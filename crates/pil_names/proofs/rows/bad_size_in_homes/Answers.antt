@@ -2,7 +2,7 @@ use Rattle.std.proofs.Common.{refl}
 use Rattle.pil_names.specs.Wrongs.{bad_size}
 use Rattle.pil_names.specs.Shown.{home, outlined}
 use Rattle.pil_names.specs.Outline.{Home}
-use Rattle.pil_names.proofs.Leasts.{flat_step, flat_end}
+use Rattle.pil_names.proofs.Passing.{flat_step, flat_end}
 use Rattle.pil_names.proofs.rows.bad_size_in_homes.Goals as goal
 
 pub loop-space-preserved : goal.loop-space-preserved

@@ -2,7 +2,7 @@ use Rattle.std.proofs.Common.{refl}
 use Rattle.pil_syntax.specs.Shown.{term}
 use Rattle.pil_names.specs.Wrongs.{unknown_in_term}
 use Rattle.pil_names.specs.Shown.{outlined}
-use Rattle.pil_names.proofs.Leasts.{flat_step, flat_end}
+use Rattle.pil_names.proofs.Passing.{flat_step, flat_end}
 use Rattle.pil_names.proofs.unknown.unknown_in_exprs.Goals as goal
 
 pub loop-expr-preserved : goal.loop-expr-preserved

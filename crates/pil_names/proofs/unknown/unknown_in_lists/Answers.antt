@@ -5,7 +5,7 @@ use Rattle.pil_syntax.specs.Tree.{Term, Tuple}
 use Rattle.pil_names.specs.Wrongs.{unknown_in_term, terms_of_list}
 use Rattle.pil_names.specs.Shown.{outlined}
 use Rattle.pil_names.specs.Least.{least}
-use Rattle.pil_names.proofs.Leasts.{flat_step, flat_end, flat_flat}
+use Rattle.pil_names.proofs.Passing.{flat_step, flat_end, flat_flat}
 use Rattle.pil_names.proofs.unknown.unknown_in_lists.Goals as goal
 
 pub loop-list-preserved : goal.loop-list-preserved

@@ -5,7 +5,7 @@ use Rattle.pil_names.specs.Outline.{Draft, Home}
 use Rattle.pil_names.specs.Wrongs.{wrong_widths_of}
 use Rattle.pil_names.specs.Shown.{draft, home, outlined}
 use Rattle.pil_names.specs.Least.{least}
-use Rattle.pil_names.proofs.Leasts.{each_step, each_end}
+use Rattle.pil_names.proofs.Passing.{each_step, each_end}
 use Rattle.pil_names.proofs.widths.least_wrong_width.Goals as goal
 
 pub loop-space-preserved : goal.loop-space-preserved

@@ -1,7 +1,7 @@
 use Rattle.std.proofs.Common.{refl}
 use Rattle.pil_syntax.specs.Shown.{tuple}
 use Rattle.pil_names.specs.Wrongs.{other_width}
-use Rattle.pil_names.proofs.Leasts.{flat_step, flat_end}
+use Rattle.pil_names.proofs.Passing.{flat_step, flat_end}
 use Rattle.pil_names.proofs.widths.other_widths.Goals as goal
 
 pub loop-list-preserved : goal.loop-list-preserved

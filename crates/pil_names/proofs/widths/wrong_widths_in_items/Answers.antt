@@ -1,7 +1,7 @@
 use Rattle.std.proofs.Common.{refl}
 use Rattle.pil_names.specs.Wrongs.{wrong_widths_of}
 use Rattle.pil_names.specs.Shown.{draft}
-use Rattle.pil_names.proofs.Leasts.{flat_step, flat_end}
+use Rattle.pil_names.proofs.Passing.{flat_step, flat_end}
 use Rattle.pil_names.proofs.widths.wrong_widths_in_items.Goals as goal
 
 pub loop-item-preserved : goal.loop-item-preserved
