@@ -1,0 +1,9 @@
+pub mod Leasts
+pub mod Numbers
+pub mod Places
+pub mod Each
+pub mod Registers
+pub mod Lookups
+pub mod Terms
+pub mod Passing
+pub mod Lowest

@@ -1,0 +1,10 @@
+use Rattle.std.proofs.Common.{ℕ, ◌≡◌, take}
+use Rattle.std.specs.List.{flat_map}
+use Rattle.pil_names.specs.Outline.{Draft}
+use Rattle.pil_names.specs.Wrongs.{each_from, bad_row_of_draft}
+use Rattle.pil_names.specs.Shown.{home, outlined}
+use Rattle.pil_names.specs.Least.{least}
+use Rattle.pil_names.proofs.rows.bad_row_in_homes.Given as goal
+
+abbrev pub invariant-loop-space : goal.invariant-loop-space
+invariant-loop-space l = record { number : l.number ≡ l.space-index; found : l.found ≡ least (each_from (λ n x. flat_map ((bad_row_of_draft (outlined l.outline)) n) (home x).items) 0 (take l.space-index l.outline.homes)) }

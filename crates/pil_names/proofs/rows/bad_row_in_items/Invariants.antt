@@ -1,0 +1,9 @@
+use Rattle.std.proofs.Common.{◌≡◌, take}
+use Rattle.std.specs.List.{flat_map}
+use Rattle.pil_names.specs.Wrongs.{bad_row_of_draft}
+use Rattle.pil_names.specs.Shown.{draft, outlined}
+use Rattle.pil_names.specs.Least.{least}
+use Rattle.pil_names.proofs.rows.bad_row_in_items.Given as goal
+
+abbrev pub invariant-loop-item : goal.invariant-loop-item
+invariant-loop-item l = l.found ≡ least (flat_map (λ x. bad_row_of_draft (outlined l.outline) l.home (draft x)) (take l.item-index l.items))

@@ -1,0 +1,10 @@
+use Rattle.std.proofs.Common.{◌≡◌, take}
+use Rattle.std.specs.List.{flat_map}
+use Rattle.pil_names.specs.Wrongs.{unknown_in_size}
+use Rattle.pil_names.specs.Shown.{home, outlined}
+use Rattle.pil_names.specs.Outline.{Home}
+use Rattle.pil_names.specs.Least.{least}
+use Rattle.pil_names.proofs.unknown.unknown_in_sizes.Given as goal
+
+abbrev pub invariant-loop-space : goal.invariant-loop-space
+invariant-loop-space l = l.found ≡ least (flat_map (λ x. (λ (h : Home). unknown_in_size (outlined l.outline) h.size) (home x)) (take l.space-index l.outline.homes))

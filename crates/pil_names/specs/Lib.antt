@@ -1,0 +1,7 @@
+pub mod Outline
+pub mod Finding
+pub mod Wrongs
+pub mod Least
+pub mod Shown
+pub mod Directory
+pub mod Gathering
