@@ -17,7 +17,7 @@ use Rattle.pil_ast.specs.Term as ast
 use Rattle.pil_ast.specs.Sound.{IsOf, IsSelector, IsList, IsLength, IsItem, IsSpace, IsAcyclic}
 use Rattle.pil_names.specs.Outline.{Draft, column, defined, published, equal, inside, against, Home, Outline, home_at, draft_at}
 use Rattle.pil_names.specs.Finding.{home_named}
-use Rattle.pil_names.specs.Wrongs.{each_name, references, selectors_of, terms_of_list, terms_of, unknown_in_home, unknown_reference, unknown_published, unknown_in_term, unknown_in_public, unknown_in_draft, is_public_in, rows_of, bad_size, bad_public_row, bad_row_of_draft, size_place, home_of_first, home_of_terms, stray, strays, mixed_in, mixed_in_draft, wrong_length, other_widths, width_of_first, wrong_widths_of}
+use Rattle.pil_names.specs.Wrongs.{each_name, references, selectors_of, terms_of_list, terms_of, unknown_in_home, unknown_reference, unknown_published, unknown_in_term, unknown_in_public, unknown_in_draft, is_public_in, rows_of, bad_size, bad_public_row, bad_row_of_draft, size_place, home_or, first_home, home_of_terms, stray, strays, mixed_in, mixed_in_draft, wrong_length, other_width, other_widths, width_of_first, wrong_widths_of}
 use Rattle.pil_meaning.specs.Meaning.{length_number, column_number, read_reference, read_term, read_filter, read_tuple, read_draft}
 use Rattle.pil_meaning.specs.Marks.{double_at}
 use Rattle.pil_meaning.specs.Soundness.{IsInField}
@@ -65,7 +65,7 @@ module _ (o : Outline) (ns : List ast.Namespace) (reading : IsReading o ns) (con
   named-below s space None e l = l
   named-below s space (Some j) e l = home_below o s space j l e
 
-  first-below : (s : ℕ) (rs : List Reference) → s < length o.homes → home_of_first o s rs < length o.homes
+  first-below : (s : ℕ) (rs : List Reference) → s < length o.homes → unwrap_or (first_home o s rs) s < length o.homes
   first-below s [] l = l
   first-below s (r ∷ rs) l = named-below s r.space (home_named o s r.space) refl l
 
@@ -140,7 +140,7 @@ module _ (o : Outline) (ns : List ast.Namespace) (reading : IsReading o ns) (con
   inside-line : (s : ℕ) (a b : Tuple) → s < length o.homes → IsKept s (inside a b) → IsItem ns s (read_draft o s (inside a b))
   inside-line s a b l h =
       let all : All (IsUsable s) (terms_of_list a ++ terms_of_list b) = usable s (inside a b) h in
-      let wide = All-head (λ k. length k.entries ≡ length a.entries) b [] (wide-lists (length a.entries) (b ∷ []) h.widths) in
+      let wide : length b.entries ≡ length a.entries = eqb-true (length b.entries) (length a.entries) (unless_true (nat_eq (length b.entries) (length a.entries)) b.at h.widths) in
       (length a.entries, h.parts,
           list-sound s (length a.entries) a l (left_nil (mixed_in o s (terms_of_list a)) (mixed_in o s (terms_of_list b)) h.here) (all_left (IsUsable s) (terms_of_list a) (terms_of_list b) all) refl,
           list-sound s (length a.entries) b l (right_nil (mixed_in o s (terms_of_list a)) (mixed_in o s (terms_of_list b)) h.here) (all_right (IsUsable s) (terms_of_list a) (terms_of_list b) all) wide)
