@@ -7,3 +7,5 @@ pub mod Terms
 pub mod Parts
 pub mod Lines
 pub mod Whole
+pub mod Columns
+pub mod Numbering

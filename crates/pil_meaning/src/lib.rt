@@ -1,6 +1,9 @@
 //! The meaning of a text: the tree of its outline, with numbers in place of names.
 #![tactic(auto)]
 
+mod firsts;
+mod expressions;
+mod items;
 mod laws;
 
 pub use laws::unbroken_is_sound;
