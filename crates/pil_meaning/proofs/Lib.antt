@@ -9,3 +9,4 @@ pub mod Lines
 pub mod Whole
 pub mod Columns
 pub mod Numbering
+pub mod Mapped

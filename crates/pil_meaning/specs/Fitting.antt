@@ -1,5 +1,5 @@
 -- The numbers of a text fit where they are kept: those of expressions the field, the others 32 bits.
-use Rattle.std.specs.Prelude.{ℕ, ◌<◌, ◌^◌, List, All, Option, Some, None}
+use Rattle.std.specs.Prelude.{ℕ, ◌<◌, ◌^◌, List, length, All, Option, Some, None}
 use Rattle.gold.specs.Field.{p}
 use Rattle.pil_ast.specs.Term.{Term, Tuples, Line, constant, commit, inter, published, identity, lookup, bus, Namespace, width}
 use Rattle.pil_ast.specs.Sound.{Each}
@@ -33,5 +33,6 @@ pub record FitsSpace (n : Namespace) : Type 0 where
   pub columns : width n.items < 2 ^ 32
   pub items : All FitsLine n.items
 
-abbrev pub Fits : List Namespace → Type 0
-Fits ns = All FitsSpace ns
+pub record Fits (ns : List Namespace) : Type 0 where
+  pub spaces : length ns < 2 ^ 32
+  pub each : All FitsSpace ns

@@ -5,5 +5,7 @@ mod firsts;
 mod expressions;
 mod items;
 mod laws;
+mod reading;
 
 pub use laws::unbroken_is_sound;
+pub use reading::read_meaning;
