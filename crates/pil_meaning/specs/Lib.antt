@@ -1,1 +1,5 @@
 pub mod Meaning
+pub mod Marks
+pub mod Soundness
+pub mod Fitting
+pub mod Firsts

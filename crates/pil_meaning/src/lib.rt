@@ -1,9 +1,11 @@
 //! The meaning of a text: the tree of its outline, with numbers in place of names.
 #![tactic(auto)]
-ghost use Rattle.std.specs.Prelude.{◌≡◌};
-ghost use Rattle.pil_names.specs.Outline.{Outline};
-ghost use Rattle.pil_meaning.specs.Meaning.{meaning};
 
-pub fn nothing()
-    ensures { (o : Outline) → meaning o ≡ meaning o }
-{}
+mod firsts;
+mod expressions;
+mod items;
+mod laws;
+mod reading;
+
+pub use laws::unbroken_is_sound;
+pub use reading::read_meaning;

@@ -1,0 +1,12 @@
+pub mod Nothing
+pub mod Found
+pub mod Places
+pub mod Widths
+pub mod Signs
+pub mod Terms
+pub mod Parts
+pub mod Lines
+pub mod Whole
+pub mod Columns
+pub mod Numbering
+pub mod Mapped
