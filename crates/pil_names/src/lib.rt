@@ -21,3 +21,6 @@ pub use outline::{Constant, Draft, Home, Outline, read_outline};
 pub use rows::{least_bad_row, rows_of_home};
 pub use unknown::least_unknown;
 pub use widths::least_wrong_width;
+
+#[cfg(test)]
+mod rule_tests;

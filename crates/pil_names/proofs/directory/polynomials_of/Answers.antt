@@ -1,4 +1,4 @@
-use Rattle.std.proofs.Common.{◌≡◌, ◌∙◌, ◌+◌, sym, ap, subst, arith, length, map, drop}
+use Rattle.std.proofs.Common.{◌∙◌, ◌+◌, sym, ap, subst, arith, length, map, drop}
 use Rattle.std.specs.Prelude.{flat_map}
 use Rattle.std.proofs.lemmas.List.{length-map}
 use Rattle.pil_names.specs.Outline.{Home}
