@@ -2,6 +2,7 @@
 //! sizes and widths are wrong.
 #![tactic(auto)]
 
+mod counting;
 mod directory;
 mod least;
 mod lookup;
@@ -12,3 +13,6 @@ mod register;
 pub use directory::{Directory, read_directory};
 pub use names::Names;
 pub use outline::{Constant, Draft, Home, Outline, read_outline};
+
+#[cfg(test)]
+mod tests;
