@@ -2,6 +2,7 @@
 //! sizes and widths are wrong.
 #![tactic(auto)]
 
+mod counting;
 mod directory;
 mod least;
 mod lookup;
@@ -24,3 +25,5 @@ pub use widths::least_wrong_width;
 
 #[cfg(test)]
 mod rule_tests;
+#[cfg(test)]
+mod tests;
