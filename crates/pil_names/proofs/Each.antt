@@ -1,13 +1,14 @@
 -- The maps of the polynomials of the namespaces so far.
 use Rattle.std.proofs.Common.{◌≡◌, ◌<◌, ◌∙◌, refl, sym, ap, subst, ℕ, zero, suc, ◌+◌, List, [], ◌∷◌, ◌++◌, map, drop, drop-cons, add-one, length, length-append, get_or, slice_get, arith}
 use Rattle.std.specs.Prelude.{Option, Some, flat_map}
+use Rattle.std.proofs.lemmas.List.{length-map}
 use Rattle.pil_names.specs.declared.names.Names.{Names}
 use Rattle.pil_names.specs.declared.outline.Home as H
 use Rattle.pil_names.specs.Outline.{Home, home_at}
 use Rattle.pil_names.specs.Finding.{polynomial_entries}
 use Rattle.pil_names.specs.Least.{least, lesser}
 use Rattle.pil_names.specs.Directory.{Lists}
-use Rattle.pil_names.specs.Shown.{home}
+use Rattle.pil_names.specs.Shown.{draft, home}
 use Rattle.pil_names.proofs.Leasts.{least-append, lesser_assoc}
 
 -- maps of the polynomials of the first n namespaces
@@ -45,3 +46,13 @@ least-drop f hs i d o w a h e was =
     ∙ ap (lesser o) (sym (least-append (f (home (get_or hs i d))) rest))
     ∙ ap (λ l. lesser o (least (flat_map f (map home l)))) (sym step)
     ∙ was)
+
+-- how many items the namespace x with number s has
+pub items-there : (hs : List H.Home) (s : ℕ) (d x : H.Home) → s < length hs → x ≡ get_or hs s d → length (home_at (map home hs) s).items ≡ length x.items
+items-there hs s d x h e = ap (λ y. length y.items) (home_at-there hs s d h) ∙ ap (λ y. length (map draft y.items)) (sym e) ∙ length-map x.items draft
+
+-- a bound on the items of each namespace that is there is one of each number
+pub items-all : (hs : List H.Home) (b : ℕ) → 0 < b → ((s : ℕ) → s < length hs → length (home_at (map home hs) s).items < b) → (s : ℕ) → length (home_at (map home hs) s).items < b
+items-all [] b z h s = z
+items-all (y ∷ hs) b z h zero = h 0 (omega arith)
+items-all (y ∷ hs) b z h (suc s) = items-all hs b z (λ k w. h (suc k) (omega arith)) s

@@ -1,5 +1,5 @@
 -- The least of lists of places.
-use Rattle.std.proofs.Common.{◌≡◌, ◌∙◌, refl, sym, ap, ℕ, List, [], ◌∷◌, ◌++◌, arith, min}
+use Rattle.std.proofs.Common.{◌≡◌, ◌∙◌, refl, sym, ap, ℕ, List, [], ◌∷◌, ◌++◌, arith}
 use Rattle.std.specs.Prelude.{Option, Some, None}
 use Rattle.pil_names.specs.Least.{lesser, least}
 

@@ -1,8 +1,8 @@
 -- What stands at a number among the constants, the namespaces and the items.
-use Rattle.std.proofs.Common.{◌≡◌, ◌≤◌, ◌+◌, ℕ, zero, suc, List, [], ◌∷◌, length, map, Option, Some, None, slice_get, option_map, unwrap_or, refl, sym, ap, ◌∙◌, arith, rules, tests, false, Bool, ltb}
+use Rattle.std.proofs.Common.{◌≡◌, ℕ, zero, suc, List, [], ◌∷◌, map, Some, None, slice_get, unwrap_or, refl, ap, rules}
 use Rattle.pil_names.specs.declared.outline.Constant as C
 use Rattle.pil_names.specs.declared.outline.Home as H
-use Rattle.pil_names.specs.Outline.{Draft, against, Home, home_at, draft_at, constant_at}
+use Rattle.pil_names.specs.Outline.{Draft, against, home_at, draft_at, constant_at}
 use Rattle.pil_names.specs.Shown.{named, home}
 
 pub constant-past : (cs : List C.Constant) (k : ℕ) → slice_get cs k ≡ None → constant_at (map named cs) k ≡ constant_at [] k

@@ -1,6 +1,6 @@
 -- What stands at a number.
-use Rattle.std.proofs.Common.{◌≡◌, ◌≤◌, ◌∙◌, refl, sym, ap, ℕ, zero, suc, List, [], ◌∷◌, map, length, slice_get, arith}
-use Rattle.std.specs.Prelude.{Option, Some, None}
+use Rattle.std.proofs.Common.{◌≡◌, ◌≤◌, refl, ℕ, zero, suc, List, [], ◌∷◌, map, length, slice_get, arith}
+use Rattle.std.specs.Prelude.{Some, None}
 use Rattle.pil_names.specs.declared.outline.Constant as C
 use Rattle.pil_names.specs.declared.outline.Home as H
 use Rattle.pil_names.specs.Outline.{constant_at, home_at}

@@ -9,7 +9,7 @@ use Rattle.pil_names.specs.Outline.{Draft, column, defined, published, equal, in
 use Rattle.pil_names.specs.Finding.{Entry, found, numbered, polynomials_from}
 use Rattle.pil_names.specs.Wrongs.{stands, repeats, repeated_among}
 use Rattle.pil_names.specs.Least.{least, lesser}
-use Rattle.pil_names.specs.Directory.{number_of, Lists, Adds, Registers}
+use Rattle.pil_names.specs.Directory.{number_of, Adds, Registers}
 use Rattle.pil_names.specs.Shown.{draft}
 use Rattle.pil_names.proofs.Numbers.{Lists-add}
 use Rattle.pil_names.proofs.Leasts.{least-append, lesser_none}

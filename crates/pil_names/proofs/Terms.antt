@@ -1,5 +1,5 @@
 -- The sums, differences and products of a tree, as plain data.
-use Rattle.std.proofs.Common.{◌≡◌, ◌∙◌, ap, sym}
+use Rattle.std.proofs.Common.{◌≡◌, ◌∙◌, ap}
 use Rattle.pil_syntax.specs.declared.tree.Expr as E
 use Rattle.pil_syntax.specs.declared.tree.Expr.{Expr}
 use Rattle.pil_syntax.specs.declared.tree.Expr.TheOpen as F

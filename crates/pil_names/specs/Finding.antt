@@ -2,7 +2,7 @@
 use Rattle.std.specs.Prelude.{ℕ, ◌+◌, List, [], ◌∷◌, map, flat_map, Option, Some, None, bytes_eq, if◌then◌else◌}
 use Rattle.pil_syntax.specs.declared.tree.Ident.{Ident}
 use Rattle.pil_syntax.specs.declared.tree.Reference.{Reference}
-use Rattle.pil_names.specs.Outline.{Named, Draft, column, defined, published, equal, inside, against, Home, Outline, home_at}
+use Rattle.pil_names.specs.Outline.{Draft, column, defined, published, Home, Outline, home_at}
 
 -- a declared name and the number of what it names
 pub record Entry : Type 0 where

@@ -1,5 +1,5 @@
 -- The outline that the statements read so far make with what follows.
-use Rattle.std.specs.Prelude.{List, [], ◌∷◌, ◌++◌, map, flat_map, Option, Some, None}
+use Rattle.std.specs.Prelude.{List, ◌∷◌, ◌++◌, map, flat_map, Option, Some, None}
 use Rattle.pil_syntax.specs.Tree.{Sentence}
 use Rattle.pil_names.specs.declared.outline.Home as H
 use Rattle.pil_names.specs.declared.outline.Gathered as G

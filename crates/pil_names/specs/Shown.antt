@@ -1,5 +1,5 @@
 -- The plain data that an outline stands for.
-use Rattle.std.specs.Prelude.{List, map}
+use Rattle.std.specs.Prelude.{map}
 use Rattle.pil_syntax.specs.Shown.{term, tuple}
 use Rattle.pil_names.specs.declared.outline.Constant as C
 use Rattle.pil_names.specs.declared.outline.Draft as D

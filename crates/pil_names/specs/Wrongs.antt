@@ -1,14 +1,13 @@
 -- The places at which a text breaks a rule of names, sizes and widths (docs/PIL.md, "Refusals"). Each rule
 -- is tested over the whole text, whatever else is wrong in it.
-use Rattle.std.specs.Prelude.{ℕ, ◌+◌, ◌^◌, List, [], ◌∷◌, ◌++◌, map, flat_map, length, Bool, true, false, Option, Some, None, is_none, is_some, unwrap_or, option_map, bytes_eq, nat_lt, nat_le, nat_eq, if◌then◌else◌, ◌&&◌}
+use Rattle.std.specs.Prelude.{ℕ, ◌+◌, ◌^◌, List, [], ◌∷◌, ◌++◌, map, flat_map, length, Bool, true, false, Option, Some, None, is_none, is_some, unwrap_or, bytes_eq, nat_lt, nat_le, nat_eq, if◌then◌else◌, ◌&&◌}
 use Rattle.pil_syntax.specs.declared.tree.Ident.{Ident}
 use Rattle.pil_syntax.specs.declared.tree.Number.{Number}
 use Rattle.pil_syntax.specs.declared.tree.Reference.{Reference}
-use Rattle.pil_syntax.specs.declared.tree.Declaration.{Declaration}
 use Rattle.pil_syntax.specs.declared.tree.Size.{Size}
 use Rattle.pil_syntax.specs.declared.tree.Size.TheVariants as sizes
 use Rattle.pil_syntax.specs.Tree.{Term, num, col, constant, public, opp, group, ◌⊕◌, ◌⊖◌, ◌⊗◌, Filter, every, by_col, by_group, Tuple}
-use Rattle.pil_names.specs.Outline.{Named, Draft, column, defined, published, equal, inside, against, Home, Outline, home_at, draft_at, constant_at}
+use Rattle.pil_names.specs.Outline.{Draft, column, defined, published, equal, inside, against, Outline, home_at, draft_at, constant_at}
 use Rattle.pil_names.specs.Finding.{Entry, found, constant_entries, home_entries, public_entries, polynomial_entries, home_named, item_named}
 
 -- what f gives for each element and its number, from n on

@@ -2,6 +2,7 @@
 //! sizes and widths are wrong.
 #![tactic(auto)]
 
+mod counting;
 mod directory;
 mod least;
 mod lookup;
@@ -21,3 +22,8 @@ pub use outline::{Constant, Draft, Home, Outline, read_outline};
 pub use rows::{least_bad_row, rows_of_home};
 pub use unknown::least_unknown;
 pub use widths::least_wrong_width;
+
+#[cfg(test)]
+mod rule_tests;
+#[cfg(test)]
+mod tests;

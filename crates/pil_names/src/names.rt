@@ -21,12 +21,19 @@ impl Names {
         }
     }
 
+    /// Whether a name has a number.
+    fn contains(&self, name: &[u8]) -> bool
+        ensures { result ≡ is_some (number_of self.now name.now) }
+    {
+        self.numbers.contains_key(name)
+    }
+
     /// Gives a name its number, unless it has one; tells whether it has.
     pub fn add(&mut self, alloc: Global, name: &[u8], number: u32) -> Result<bool, AllocError>
         ensures stood { IfOk result (λ stood. stood ≡ is_some (number_of self.old name.now)) }
         ensures added { OnOk result (Adds self.old name.now number self.new) }
     {
-        if self.numbers.contains_key(name) {
+        if self.contains(name) {
             return Ok(true);
         }
         self.numbers.insert(Vec::from_slice(alloc, name)?, number)?;

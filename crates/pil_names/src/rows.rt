@@ -59,12 +59,7 @@ fn bad_public_row(
 }
 
 /// The bad row of an item of the namespace `home`.
-fn bad_row_of_draft(
-    outline: &Outline,
-    directory: &Directory,
-    home: u32,
-    item: Draft,
-) -> Option<u64>
+fn bad_row_of_draft(outline: &Outline, directory: &Directory, home: u32, item: Draft) -> Option<u64>
     requires { IsDirectory (outlined outline.now) directory.now }
     ensures { result ≡ least (bad_row_of_draft (outlined outline.now) home (draft item.entry)) }
 {

@@ -294,12 +294,7 @@ fn unknown_in_public(
 
 /// The first unknown name in the expressions of an item.
 #[tactic(auto, using(crate::proofs::Passing::joined))]
-fn unknown_in_terms(
-    outline: &Outline,
-    directory: &Directory,
-    home: u32,
-    item: Draft,
-) -> Option<u64>
+fn unknown_in_terms(outline: &Outline, directory: &Directory, home: u32, item: Draft) -> Option<u64>
     requires { IsDirectory (outlined outline.now) directory.now }
     ensures { result ≡ least (flat_map (unknown_in_term (outlined outline.now) home) (terms_of (draft item.entry))) }
 {
@@ -327,12 +322,7 @@ fn unknown_in_terms(
 
 /// The first unknown name of an item of the namespace `home`.
 #[tactic(auto, using(crate::proofs::Passing::joined))]
-fn unknown_in_draft(
-    outline: &Outline,
-    directory: &Directory,
-    home: u32,
-    item: Draft,
-) -> Option<u64>
+fn unknown_in_draft(outline: &Outline, directory: &Directory, home: u32, item: Draft) -> Option<u64>
     requires { IsDirectory (outlined outline.now) directory.now }
     ensures { result ≡ least (unknown_in_draft (outlined outline.now) home (draft item.entry)) }
 {

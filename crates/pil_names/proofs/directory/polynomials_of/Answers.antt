@@ -1,20 +1,19 @@
-use Rattle.std.proofs.Common.{◌≡◌, ◌∙◌, ◌+◌, sym, ap, subst, arith, length, map, drop}
+use Rattle.std.proofs.Common.{◌∙◌, ◌+◌, sym, ap, subst, arith, length, map, drop}
 use Rattle.std.specs.Prelude.{flat_map}
-use Rattle.std.proofs.lemmas.List.{length-map}
 use Rattle.pil_names.specs.Outline.{Home}
 use Rattle.pil_names.specs.Finding.{polynomial_entries, polynomials_from}
 use Rattle.pil_names.specs.Least.{least, lesser}
 use Rattle.pil_names.specs.Wrongs.{repeated_among}
 use Rattle.pil_names.specs.Directory.{Registers}
 use Rattle.pil_names.specs.Shown.{draft, home}
-use Rattle.pil_names.proofs.Each.{ListsFirst, home_at-there, ListsFirst-push, least-drop}
+use Rattle.pil_names.proofs.Each.{ListsFirst, home_at-there, items-there, ListsFirst-push, least-drop}
 use Rattle.pil_names.proofs.directory.polynomials_of.Goals as goal
 
 pub register_polynomials-requires : goal.register_polynomials-requires
 register_polynomials-requires c =
     let x = c.home-item.result in
-    let e = ap (λ h. length h.items) (home_at-there c.args.homes.now c.loop-home.home-index x c.loop-home-test.true) ∙ ap (λ h. length (map draft h.items)) (sym c.home-item.is) in
-    omega (arith, e, c.requires c.loop-home.home-index, length-map x.items draft, ap length c.as_slice.ensures)
+    let e = items-there c.args.homes.now c.loop-home.home-index x x c.loop-home-test.true c.home-item.is in
+    omega (arith, e, c.requires c.loop-home.home-index, ap length c.as_slice.ensures)
 
 pub loop-home-preserved : goal.loop-home-preserved
 loop-home-preserved c =

@@ -1,4 +1,4 @@
-use Rattle.std.proofs.Common.{◌≡◌, List, map, drop, take}
+use Rattle.std.proofs.Common.{◌≡◌, map, drop}
 use Rattle.std.specs.Prelude.{flat_map}
 use Rattle.pil_names.specs.Finding.{polynomial_entries}
 use Rattle.pil_names.specs.Least.{least, lesser}

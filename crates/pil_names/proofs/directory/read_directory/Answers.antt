@@ -1,4 +1,4 @@
-use Rattle.std.proofs.Common.{◌≡◌, ◌∙◌, ap, map, subst}
+use Rattle.std.proofs.Common.{◌∙◌, ap, map, subst}
 use Rattle.std.specs.Prelude.{flat_map}
 use Rattle.pil_names.specs.Outline.{Home}
 use Rattle.pil_names.specs.Finding.{constant_entries, home_entries, public_entries, polynomial_entries}

@@ -1,11 +1,11 @@
-use Rattle.std.proofs.Common.{◌≡◌, ap, ◌∙◌}
+use Rattle.std.proofs.Common.{ap, ◌∙◌}
 use Rattle.pil_syntax.specs.Shown.{term}
 use Rattle.std.specs.List.{flat_map}
 use Rattle.pil_names.specs.Wrongs.{references, stray}
 use Rattle.pil_names.specs.Least.{least}
 use Rattle.pil_names.specs.Shown.{outlined}
 use Rattle.pil_names.proofs.Terms.{term_add, term_sub, term_mul}
-use Rattle.pil_names.proofs.Passing.{least_joined, least_both}
+use Rattle.pil_names.proofs.Passing.{least_joined}
 use Rattle.pil_names.proofs.mixed.+stray_in_expr.Goals as goal
 
 pub returns-in-Add : goal.returns-in-Add

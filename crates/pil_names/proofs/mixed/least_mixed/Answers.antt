@@ -1,7 +1,7 @@
-use Rattle.std.proofs.Common.{ℕ, ◌≡◌, ◌<◌, ◌^◌, length, map, ap, sym, subst, ◌∙◌, arith}
+use Rattle.std.proofs.Common.{◌<◌, ◌^◌, length, map, ap, subst, ◌∙◌, arith}
 use Rattle.std.specs.List.{flat_map}
 use Rattle.std.proofs.lemmas.List.{length-map}
-use Rattle.pil_names.specs.Outline.{Draft, Home}
+use Rattle.pil_names.specs.Outline.{Home}
 use Rattle.pil_names.specs.Wrongs.{mixed_in_draft}
 use Rattle.pil_names.specs.Shown.{draft, home, outlined}
 use Rattle.pil_names.specs.Least.{least}

@@ -1,7 +1,7 @@
-use Rattle.std.proofs.Common.{◌≡◌, map, refl, ap, sym, ◌∙◌}
+use Rattle.std.proofs.Common.{map, refl, ap, sym, ◌∙◌}
 use Rattle.std.specs.List.{flat_map}
 use Rattle.pil_syntax.specs.Shown.{term}
-use Rattle.pil_syntax.specs.Tree.{Term, Tuple}
+use Rattle.pil_syntax.specs.Tree.{Term}
 use Rattle.pil_names.specs.Wrongs.{stray, references}
 use Rattle.pil_names.specs.Shown.{outlined}
 use Rattle.pil_names.specs.Least.{least}

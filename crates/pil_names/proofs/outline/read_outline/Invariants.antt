@@ -1,4 +1,4 @@
-use Rattle.std.proofs.Common.{◌≡◌, List, [], map, drop}
+use Rattle.std.proofs.Common.{◌≡◌, [], map, drop}
 use Rattle.pil_syntax.specs.Shown.{sentence, sentences}
 use Rattle.pil_names.specs.Outline.{outline_of}
 use Rattle.pil_names.specs.Gathering.{outline_with}

@@ -1,4 +1,4 @@
-use Rattle.std.proofs.Common.{◌≡◌, ◌++◌, List, map, drop}
+use Rattle.std.proofs.Common.{◌≡◌, ◌++◌, map, drop}
 use Rattle.pil_names.specs.Finding.{public_names}
 use Rattle.pil_names.specs.Shown.{home}
 use Rattle.pil_names.proofs.register.publics_of.Given as goal

@@ -1,4 +1,4 @@
-use Rattle.std.proofs.Common.{◌≡◌, ◌∙◌, ◌++◌, ◌∷◌, [], map, take, sym, ap, subst}
+use Rattle.std.proofs.Common.{◌∙◌, ◌++◌, ◌∷◌, [], map, take, sym, ap, subst}
 use Rattle.pil_names.specs.Finding.{numbered}
 use Rattle.pil_names.specs.Directory.{Registers}
 use Rattle.pil_names.proofs.Registers.{numbered-take}

@@ -1,4 +1,4 @@
-use Rattle.std.proofs.Common.{List, map, take}
+use Rattle.std.proofs.Common.{map, take}
 use Rattle.pil_names.specs.Finding.{numbered}
 use Rattle.pil_names.specs.Directory.{Registers}
 use Rattle.pil_names.proofs.register.register_all.Given as goal

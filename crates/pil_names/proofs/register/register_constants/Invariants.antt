@@ -1,4 +1,4 @@
-use Rattle.std.proofs.Common.{◌≡◌, ◌++◌, List, map, drop}
+use Rattle.std.proofs.Common.{◌≡◌, ◌++◌, map, drop}
 use Rattle.pil_names.specs.Shown.{named}
 use Rattle.pil_names.proofs.register.register_constants.Given as goal
 

@@ -1,4 +1,3 @@
-use Rattle.std.proofs.Common.{refl}
 use Rattle.pil_names.specs.Wrongs.{bad_size}
 use Rattle.pil_names.specs.Shown.{home, outlined}
 use Rattle.pil_names.specs.Outline.{Home}

@@ -1,4 +1,4 @@
-use Rattle.std.proofs.Common.{◌≡◌, sym, ap, ◌∙◌}
+use Rattle.std.proofs.Common.{sym, ap, ◌∙◌}
 use Rattle.pil_names.specs.Wrongs.{rows_of}
 use Rattle.pil_names.specs.Shown.{outlined}
 use Rattle.pil_names.proofs.Lookups.{home-within, home-missing}

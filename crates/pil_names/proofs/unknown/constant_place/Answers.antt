@@ -1,4 +1,4 @@
-use Rattle.std.proofs.Common.{◌≡◌, sym, ap}
+use Rattle.std.proofs.Common.{sym, ap}
 use Rattle.pil_names.proofs.Places.{constant_at-there}
 use Rattle.pil_names.proofs.Lookups.{constant-past}
 use Rattle.pil_names.proofs.unknown.constant_place.Goals as goal

@@ -1,4 +1,4 @@
-use Rattle.std.proofs.Common.{◌≡◌, sym, ap, ◌∙◌, option_map, slice_get}
+use Rattle.std.proofs.Common.{sym, ap, ◌∙◌, option_map, slice_get}
 use Rattle.std.proofs.lemmas.Option.{slice_get-map}
 use Rattle.pil_names.specs.Shown.{draft}
 use Rattle.pil_names.proofs.Lookups.{home-within, home-missing}

@@ -1,4 +1,4 @@
-use Rattle.std.proofs.Common.{◌≡◌, sym, ap, ◌∙◌}
+use Rattle.std.proofs.Common.{sym, ap, ◌∙◌}
 use Rattle.pil_names.specs.Outline.{home_at}
 use Rattle.pil_names.specs.Wrongs.{length_of}
 use Rattle.pil_names.specs.Shown.{draft, outlined}

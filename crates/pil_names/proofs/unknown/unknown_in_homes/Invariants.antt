@@ -1,6 +1,5 @@
-use Rattle.std.proofs.Common.{ℕ, ◌≡◌, take}
+use Rattle.std.proofs.Common.{◌≡◌, take}
 use Rattle.std.specs.List.{flat_map}
-use Rattle.pil_names.specs.Outline.{Draft}
 use Rattle.pil_names.specs.Wrongs.{each_from, unknown_in_draft}
 use Rattle.pil_names.specs.Shown.{home, outlined}
 use Rattle.pil_names.specs.Least.{least}

@@ -1,7 +1,7 @@
-use Rattle.std.proofs.Common.{◌≡◌, map, refl, ap, sym, ◌∙◌}
+use Rattle.std.proofs.Common.{map, refl, ap, sym, ◌∙◌}
 use Rattle.std.specs.List.{flat_map}
 use Rattle.pil_syntax.specs.Shown.{tuple}
-use Rattle.pil_syntax.specs.Tree.{Term, Tuple}
+use Rattle.pil_syntax.specs.Tree.{Tuple}
 use Rattle.pil_names.specs.Wrongs.{unknown_in_term, terms_of_list}
 use Rattle.pil_names.specs.Shown.{outlined}
 use Rattle.pil_names.specs.Least.{least}

@@ -1,9 +1,8 @@
-use Rattle.std.proofs.Common.{ℕ, ◌≡◌, ◌<◌, ◌^◌, length, map, ap, sym, subst, ◌∙◌, arith}
+use Rattle.std.proofs.Common.{ℕ, map, ap, ◌∙◌}
 use Rattle.std.specs.List.{flat_map}
-use Rattle.std.proofs.lemmas.List.{length-map}
 use Rattle.pil_names.specs.Outline.{Draft, Home}
 use Rattle.pil_names.specs.Wrongs.{wrong_widths_of}
-use Rattle.pil_names.specs.Shown.{draft, home, outlined}
+use Rattle.pil_names.specs.Shown.{draft, home}
 use Rattle.pil_names.specs.Least.{least}
 use Rattle.pil_names.proofs.Passing.{each_step, each_end}
 use Rattle.pil_names.proofs.widths.least_wrong_width.Goals as goal

@@ -2,7 +2,7 @@ use Rattle.std.proofs.Common.{ℕ, ◌≡◌, take}
 use Rattle.std.specs.List.{flat_map}
 use Rattle.pil_names.specs.Outline.{Draft}
 use Rattle.pil_names.specs.Wrongs.{each_from, wrong_widths_of}
-use Rattle.pil_names.specs.Shown.{home, outlined}
+use Rattle.pil_names.specs.Shown.{home}
 use Rattle.pil_names.specs.Least.{least}
 use Rattle.pil_names.proofs.widths.least_wrong_width.Given as goal
 

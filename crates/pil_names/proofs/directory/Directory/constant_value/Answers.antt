@@ -1,4 +1,4 @@
-use Rattle.std.proofs.Common.{◌≡◌, ◌∙◌, sym, ap}
+use Rattle.std.proofs.Common.{◌∙◌, sym, ap}
 use Rattle.pil_names.proofs.Places.{constant_at-there, constant_at-none}
 use Rattle.pil_names.specs.Shown.{outlined}
 use Rattle.pil_names.specs.Wrongs.{value_of_constant}

@@ -1,8 +1,8 @@
-use Rattle.std.proofs.Common.{◌≡◌, ◌≤◌, ◌∙◌, sym, ap, arith, length}
+use Rattle.std.proofs.Common.{◌≤◌, sym, ap, arith, length}
 use Rattle.std.proofs.lemmas.List.{length-map}
 use Rattle.pil_names.specs.Finding.{found}
 use Rattle.pil_names.proofs.Places.{no_home}
-use Rattle.pil_names.specs.Shown.{outlined, home}
+use Rattle.pil_names.specs.Shown.{home}
 use borrow.Author.Tests.{ltb-false}
 use Rattle.pil_names.proofs.directory.Directory.item.Goals as goal
 

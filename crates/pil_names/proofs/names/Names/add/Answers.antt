@@ -11,5 +11,5 @@ returns-clause-added c =
     c.args.name.now
     c.args.number
     c.in_ok-from_slice.ensures.items
-    (sym c.contains_key.ensures ∙ c.if-contains_key.false)
+    (sym c.contains.ensures ∙ c.if-contains.false)
     c.in_ok-insert.ensures.updates

@@ -1,4 +1,4 @@
-use Rattle.std.proofs.Common.{◌≡◌, List, [], map, drop}
+use Rattle.std.proofs.Common.{◌≡◌, List, map, drop}
 use Rattle.pil_syntax.specs.Tree.{Sentence}
 use Rattle.pil_names.specs.Outline.{column}
 use Rattle.pil_names.specs.Gathering.{outline_with}
