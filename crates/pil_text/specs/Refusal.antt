@@ -1,10 +1,9 @@
--- What a file of statements means, or by which rule it is refused: the first in the table's order that it breaks
+-- What a text means by its outline, or by which rule it is refused: the first in the table's order that it breaks
 -- somewhere, at the least place at which it breaks it (docs/PIL.md, "Refusals").
-use Rattle.std.specs.Prelude.{ℕ, ◌<◌, ◌≤◌, ◌≡◌, List, Contains, ◌⊎◌}
-use Rattle.pil_syntax.specs.Tree.{Sentence}
+use Rattle.std.specs.Prelude.{ℕ, ◌<◌, ◌≤◌, ◌≡◌, List, [], Contains, Result, Ok, Err}
 use Rattle.pil_ast.specs.Term.{Namespace, space_at}
 use Rattle.pil_cycles.specs.Cycles.{IsOnCycle}
-use Rattle.pil_names.specs.Outline.{Outline, Draft, column, defined, published, equal, inside, against, home_at, draft_at, outline_of}
+use Rattle.pil_names.specs.Outline.{Outline, Draft, column, defined, published, equal, inside, against, home_at, draft_at}
 use Rattle.pil_names.specs.Wrongs.{repeated, unknown, bad_rows, mixed, wrong_widths}
 use Rattle.pil_meaning.specs.Meaning.{meaning}
 use Rattle.pil_meaning.specs.Marks.{double}
@@ -52,13 +51,28 @@ turn CyclicPol = 7
 turn DoubleMark = 8
 turn NoMemory = 9
 
--- the statements break no rule, and mean this
-pub record Means (ss : List Sentence) (ns : List Namespace) : Type 0 where
-  pub right : (k : PilErrKind) (at : ℕ) → IsWrong k (outline_of ss) at → ⊥
-  pub meaning : ns ≡ meaning (outline_of ss)
+-- the text breaks no rule, and means this
+pub record Means (o : Outline) (ns : List Namespace) : Type 0 where
+  pub right : (k : PilErrKind) (at : ℕ) → IsWrong k o at → ⊥
+  pub meant : ns ≡ meaning o
 
--- the statements break this rule first, at this place first
-pub record Breaks (ss : List Sentence) (e : PilErr) : Type 0 where
-  pub wrong : IsWrong e.kind (outline_of ss) e.at
-  pub least : (at : ℕ) → IsWrong e.kind (outline_of ss) at → e.at ≤ at
-  pub first : (k : PilErrKind) (at : ℕ) → turn k < turn e.kind → IsWrong k (outline_of ss) at → ⊥
+-- the text breaks this rule first, at this place first
+pub record Breaks (o : Outline) (e : PilErr) : Type 0 where
+  pub wrong : IsWrong e.kind o e.at
+  pub least : (at : ℕ) → IsWrong e.kind o at → e.at ≤ at
+  pub first : (k : PilErrKind) (at : ℕ) → turn k < turn e.kind → IsWrong k o at → ⊥
+
+-- the rules that are tested before the n-th are kept
+pub record IsClear (n : ℕ) (o : Outline) : Type 0 where
+  pub repeated : 2 < n → repeated o ≡ []
+  pub unknown : 3 < n → unknown o ≡ []
+  pub rows : 4 < n → bad_rows o ≡ []
+  pub mixed : 5 < n → mixed o ≡ []
+  pub widths : 6 < n → wrong_widths o ≡ []
+  pub cyclic : 7 < n → (at : ℕ) → IsCyclic o at → ⊥
+  pub double : 8 < n → double o ≡ []
+
+-- a rule's list of places, or that there is none
+abbrev pub BreaksOrClears : Outline → ℕ → Result (Unit {0}) PilErr → Type 0
+BreaksOrClears o n (Ok u) = IsClear n o
+BreaksOrClears o n (Err e) = Breaks o e

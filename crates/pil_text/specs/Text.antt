@@ -12,6 +12,7 @@ use Rattle.pil_syntax.specs.Tree.{Sentence}
 use Rattle.pil_syntax.specs.Grammar.{limits}
 use Rattle.pil_syntax.specs.Refusal as grammar
 use Rattle.pil_ast.specs.Term.{Namespace}
+use Rattle.pil_names.specs.Outline.{outline_of}
 use Rattle.pil_text.specs.declared.error.PilErr.{PilErr}
 use Rattle.pil_text.specs.declared.error.PilErrKind.{PilErrKind}
 use Rattle.pil_text.specs.declared.error.PilErrKind.TheVariants.{BadByte, NumberTooLarge, Unexpected, TooDeep, NoMemory}
@@ -33,7 +34,7 @@ pub record Reads (text : List ℕ) (ns : List Namespace) : Type 0 where
   pub statements : List Sentence
   pub lexed : lexed text ≡ Ok tokens
   pub parsed : grammar.Reads limits tokens statements
-  pub means : Means statements ns
+  pub means : Means (outline_of statements) ns
 
 -- a place begins no token
 pub record FailsAsTokens (text : List ℕ) (e : PilErr) : Type 0 where
@@ -57,7 +58,7 @@ pub record FailsAsNames (text : List ℕ) (e : PilErr) : Type 0 where
   pub statements : List Sentence
   pub lexed : lexed text ≡ Ok tokens
   pub parsed : grammar.Reads limits tokens statements
-  pub breaks : Breaks statements e
+  pub breaks : Breaks (outline_of statements) e
 
 abbrev pub Fails : List ℕ → PilErr → Type 0
 Fails text e = FailsAsTokens text e ⊎ (FailsAsFile text e ⊎ FailsAsNames text e)

@@ -2,5 +2,6 @@
 #![tactic(auto)]
 
 mod error;
+mod rules;
 
 pub use error::{PilErr, PilErrKind};
