@@ -10,3 +10,4 @@ pub mod Whole
 pub mod Columns
 pub mod Numbering
 pub mod Mapped
+pub mod Ranges

@@ -1,8 +1,15 @@
 //! What is true of the meaning of every text.
 ghost use Rattle.pil_meaning.specs.Soundness.{UnbrokenIsSound};
+ghost use Rattle.pil_meaning.specs.Fitting.{NamedFits};
 
 /// The law of soundness: a short file that breaks no rule of names, sizes, widths, cycles and marks
 /// has a sound meaning. The call computes nothing.
 pub fn unbroken_is_sound()
     ensures sound { UnbrokenIsSound }
+{}
+
+/// The law of sizes: the numbers of a short file fit where the tree keeps them, if no rule of names,
+/// rows and widths is broken. The call computes nothing.
+pub fn named_fits()
+    ensures fits { NamedFits }
 {}

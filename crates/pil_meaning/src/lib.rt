@@ -7,5 +7,5 @@ mod items;
 mod laws;
 mod reading;
 
-pub use laws::unbroken_is_sound;
+pub use laws::{named_fits, unbroken_is_sound};
 pub use reading::read_meaning;
