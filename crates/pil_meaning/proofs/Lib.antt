@@ -11,3 +11,8 @@ pub mod Columns
 pub mod Numbering
 pub mod Mapped
 pub mod Ranges
+pub mod Marking
+pub mod Leasts
+pub mod Passing
+pub mod Sums
+pub mod Doubles

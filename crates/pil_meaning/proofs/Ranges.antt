@@ -182,7 +182,7 @@ space-fits : (o : Outline) → HasNumbers o → signs (meaning o) ≤ 2 ^ 20 →
 space-fits o numbers short u b w s l =
     let r = reading o in
     let few = λ (j : ℕ) (k : j < length o.homes). (let bound : sum_by constant_columns (home_at o.homes j).items + sum_by committed_columns (home_at o.homes j).items < 2 ^ 32 =
-        omega (arith, all-few (home_at o.homes j).items (each_draft (λ s d. wrong_widths_of d) o j w k), short, space-within (meaning o) j (omega (arith, r.long)), items-signs (ast.space_at (meaning o) j).items, ap length (r.items j k), length-map (home_at o.homes j).items (read_draft o j)) in bound) in
+    omega (arith, all-few (home_at o.homes j).items (each_draft (λ s d. wrong_widths_of d) o j w k), short, space-within (meaning o) j (omega (arith, r.long)), items-signs (ast.space_at (meaning o) j).items, ap length (r.items j k), length-map (home_at o.homes j).items (read_draft o j)) in bound) in
     let drafts : List Draft = (home_at o.homes s).items in
     let names : All (λ d. unknown_in_draft o s d ≡ []) drafts = each_draft (unknown_in_draft o) o s (right_nil (flat_map (λ (h : Home). unknown_in_size o h.size) o.homes) (each_item (unknown_in_draft o) o) u) l in
     let rows : All (λ d. bad_row_of_draft o s d ≡ []) drafts = each_draft (bad_row_of_draft o) o s (right_nil (flat_map (λ (h : Home). bad_size o h.size) o.homes) (each_item (bad_row_of_draft o) o) b) l in
