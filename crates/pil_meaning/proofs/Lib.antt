@@ -16,3 +16,4 @@ pub mod Leasts
 pub mod Passing
 pub mod Sums
 pub mod Doubles
+pub mod Closing

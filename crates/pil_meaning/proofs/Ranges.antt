@@ -37,19 +37,19 @@ signs-some (ast.identity s a b) = omega arith
 signs-some (ast.lookup a b) = omega arith
 signs-some (ast.bus ls rs) = omega arith
 
-items-signs : (ls : List ast.Line) → length ls ≤ sum_by signs_of_item ls
+pub items-signs : (ls : List ast.Line) → length ls ≤ sum_by signs_of_item ls
 items-signs [] = omega arith
 items-signs (l ∷ ls) = omega (arith, sum_by-cons signs_of_item l ls, signs-some l, items-signs ls)
 
-abbrev space_signs : ast.Namespace → ℕ
+abbrev pub space_signs : ast.Namespace → ℕ
 space_signs n = 1 + sum_by signs_of_item n.items
 
-space-within : (ns : List ast.Namespace) (s : ℕ) → s < length ns → space_signs (ast.space_at ns s) ≤ signs ns
+pub space-within : (ns : List ast.Namespace) (s : ℕ) → s < length ns → space_signs (ast.space_at ns s) ≤ signs ns
 space-within [] s l = absurd (omega arith)
 space-within (n ∷ ns) zero l = omega (arith, sum_by-cons space_signs n ns)
 space-within (n ∷ ns) (suc s) l = omega (arith, sum_by-cons space_signs n ns, space-within ns s (omega arith))
 
-spaces-signs : (ns : List ast.Namespace) → length ns ≤ signs ns
+pub spaces-signs : (ns : List ast.Namespace) → length ns ≤ signs ns
 spaces-signs [] = omega arith
 spaces-signs (n ∷ ns) = omega (arith, sum_by-cons space_signs n ns, spaces-signs ns)
 
@@ -85,7 +85,7 @@ number-fits (ast.◌⊕◌ a b) h = omega arith
 number-fits (ast.◌⊖◌ a b) h = omega arith
 number-fits (ast.◌⊗◌ a b) h = omega arith
 
-all-spaces : (P : ast.Namespace → Type 0) (ns : List ast.Namespace) → ((s : ℕ) → s < length ns → P (ast.space_at ns s)) → All P ns
+pub all-spaces : (P : ast.Namespace → Type 0) (ns : List ast.Namespace) → ((s : ℕ) → s < length ns → P (ast.space_at ns s)) → All P ns
 all-spaces P [] f = All-nil P
 all-spaces P (n ∷ ns) f = All-cons P n ns (f 0 (omega arith)) (all-spaces P ns (λ s l. f (suc s) (omega arith)))
 

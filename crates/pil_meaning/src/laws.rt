@@ -1,6 +1,7 @@
 //! What is true of the meaning of every text.
 ghost use Rattle.pil_meaning.specs.Soundness.{UnbrokenIsSound};
 ghost use Rattle.pil_meaning.specs.Fitting.{NamedFits};
+ghost use Rattle.pil_meaning.specs.Closed.{NamedIsClosed};
 
 /// The law of soundness: a short file that breaks no rule of names, sizes, widths, cycles and marks
 /// has a sound meaning. The call computes nothing.
@@ -12,4 +13,10 @@ pub fn unbroken_is_sound()
 /// rows and widths is broken. The call computes nothing.
 pub fn named_fits()
     ensures fits { NamedFits }
+{}
+
+/// The law of closed namespaces: in a short file whose names are declared and unmixed, an
+/// intermediate names intermediates of its own namespace alone. The call computes nothing.
+pub fn named_is_closed()
+    ensures closed { NamedIsClosed }
 {}
