@@ -17,3 +17,4 @@ pub mod Passing
 pub mod Sums
 pub mod Doubles
 pub mod Closing
+pub mod Seen

@@ -4,3 +4,4 @@ pub mod Soundness
 pub mod Fitting
 pub mod Firsts
 pub mod Closed
+pub mod Given

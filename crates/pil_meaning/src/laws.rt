@@ -2,6 +2,7 @@
 ghost use Rattle.pil_meaning.specs.Soundness.{UnbrokenIsSound};
 ghost use Rattle.pil_meaning.specs.Fitting.{NamedFits};
 ghost use Rattle.pil_meaning.specs.Closed.{NamedIsClosed};
+ghost use Rattle.pil_meaning.specs.Given.{TokensHaveNumbers, TokensHaveSigns};
 
 /// The law of soundness: a short file that breaks no rule of names, sizes, widths, cycles and marks
 /// has a sound meaning. The call computes nothing.
@@ -19,4 +20,11 @@ pub fn named_fits()
 /// intermediate names intermediates of its own namespace alone. The call computes nothing.
 pub fn named_is_closed()
     ensures closed { NamedIsClosed }
+{}
+
+/// The law of tokens: the numbers of a file that is read from tokens are below the order of the
+/// field, and it has as many `;`, `,` and `{` as they. The call computes nothing.
+pub fn tokens_give()
+    ensures numbers { TokensHaveNumbers }
+    ensures signs { TokensHaveSigns }
 {}
