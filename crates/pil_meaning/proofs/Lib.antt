@@ -10,3 +10,11 @@ pub mod Whole
 pub mod Columns
 pub mod Numbering
 pub mod Mapped
+pub mod Ranges
+pub mod Marking
+pub mod Leasts
+pub mod Passing
+pub mod Sums
+pub mod Doubles
+pub mod Closing
+pub mod Seen

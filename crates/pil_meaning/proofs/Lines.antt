@@ -140,10 +140,12 @@ module _ (o : Outline) (ns : List ast.Namespace) (reading : IsReading o ns) (con
   inside-line : (s : ℕ) (a b : Tuple) → s < length o.homes → IsKept s (inside a b) → IsItem ns s (read_draft o s (inside a b))
   inside-line s a b l h =
       let all : All (IsUsable s) (terms_of_list a ++ terms_of_list b) = usable s (inside a b) h in
-      let wide : length b.entries ≡ length a.entries = eqb-true (length b.entries) (length a.entries) (unless_true (nat_eq (length b.entries) (length a.entries)) b.at h.widths) in
-      (length a.entries, h.parts,
-          list-sound s (length a.entries) a l (left_nil (mixed_in o s (terms_of_list a)) (mixed_in o s (terms_of_list b)) h.here) (all_left (IsUsable s) (terms_of_list a) (terms_of_list b) all) refl,
-          list-sound s (length a.entries) b l (right_nil (mixed_in o s (terms_of_list a)) (mixed_in o s (terms_of_list b)) h.here) (all_right (IsUsable s) (terms_of_list a) (terms_of_list b) all) wide)
+      let wide : length b.entries ≡ length a.entries = eqb-true (length b.entries) (length a.entries) (unless_true (nat_eq (length b.entries) (length a.entries)) b.at h.widths) in (
+        length a.entries,
+        h.parts,
+        list-sound s (length a.entries) a l (left_nil (mixed_in o s (terms_of_list a)) (mixed_in o s (terms_of_list b)) h.here) (all_left (IsUsable s) (terms_of_list a) (terms_of_list b) all) refl,
+        list-sound s (length a.entries) b l (right_nil (mixed_in o s (terms_of_list a)) (mixed_in o s (terms_of_list b)) h.here) (all_right (IsUsable s) (terms_of_list a) (terms_of_list b) all) wide,
+      )
 
   abbrev mixed-lists : ℕ → List Tuple → List ℕ
   mixed-lists s ls = flat_map (λ l. mixed_in o s (terms_of_list l)) ls
@@ -151,10 +153,14 @@ module _ (o : Outline) (ns : List ast.Namespace) (reading : IsReading o ns) (con
   against-line : (s : ℕ) (ls rs : List Tuple) → s < length o.homes → IsKept s (against ls rs) → IsItem ns s (read_draft o s (against ls rs))
   against-line s ls rs l h =
       let n : ℕ = width_of_first ls in
-      let all : All (IsUsable s) (flat_map terms_of_list ls ++ flat_map terms_of_list rs) = usable s (against ls rs) h in
-      (n, h.parts.2, omega (arith, h.parts.0, length-map ls (read_tuple o s)), omega (arith, h.parts.1, length-map rs (read_tuple o s)),
-          lists-sound s n ls l (left_nil (mixed-lists s ls) (mixed-lists s rs) h.here) (all_left (IsUsable s) (flat_map terms_of_list ls) (flat_map terms_of_list rs) all) (left_nil (other_widths n ls) (other_widths n rs) h.widths),
-          lists-sound s n rs l (right_nil (mixed-lists s ls) (mixed-lists s rs) h.here) (all_right (IsUsable s) (flat_map terms_of_list ls) (flat_map terms_of_list rs) all) (right_nil (other_widths n ls) (other_widths n rs) h.widths))
+      let all : All (IsUsable s) (flat_map terms_of_list ls ++ flat_map terms_of_list rs) = usable s (against ls rs) h in (
+        n,
+        h.parts.2,
+        omega (arith, h.parts.0, length-map ls (read_tuple o s)),
+        omega (arith, h.parts.1, length-map rs (read_tuple o s)),
+        lists-sound s n ls l (left_nil (mixed-lists s ls) (mixed-lists s rs) h.here) (all_left (IsUsable s) (flat_map terms_of_list ls) (flat_map terms_of_list rs) all) (left_nil (other_widths n ls) (other_widths n rs) h.widths),
+        lists-sound s n rs l (right_nil (mixed-lists s ls) (mixed-lists s rs) h.here) (all_right (IsUsable s) (flat_map terms_of_list ls) (flat_map terms_of_list rs) all) (right_nil (other_widths n ls) (other_widths n rs) h.widths),
+      )
 
   pub line-sound : (s : ℕ) (d : Draft) → s < length o.homes → IsKept s d → IsItem ns s (read_draft o s d)
   line-sound s (column Constant d) l h = length-sound d.length h.widths

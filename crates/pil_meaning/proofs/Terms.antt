@@ -117,7 +117,7 @@ module _ (o : Outline) (ns : List ast.Namespace) (reading : IsReading o ns) wher
   public_known x None e q = absurd (false≢true q)
   public_known x (Some k) e q = omega (arith, found_below x.name 0 (public_names o.homes) k e, reading.publics)
 
-  constant_known : (i : Option ℕ) → All (λ c. c.value.value < p) o.constants → value_of_constant o i < p
+  pub constant_known : (i : Option ℕ) → All (λ c. c.value.value < p) o.constants → value_of_constant o i < p
   constant_known None a = omega arith
   constant_known (Some k) a = value-small o.constants k a
 

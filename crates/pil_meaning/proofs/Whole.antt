@@ -17,7 +17,6 @@ use Rattle.pil_meaning.proofs.Signs.{meaning-signs}
 use Rattle.pil_meaning.proofs.Parts.{HasParts, file-parts}
 use Rattle.pil_meaning.proofs.Lines.{IsKept, space-sound}
 
-
 space : (o : Outline) → HasNumbers o → IsUnbroken o → All (λ (h : Home). All HasParts h.items) o.homes → (s : ℕ) → s < length o.homes → IsSpace (meaning o) s (space_at (meaning o) s)
 space o numbers h parts s l =
     let drafts : List Draft = (home_at o.homes s).items in
@@ -30,7 +29,7 @@ space o numbers h parts s l =
     let has : All HasParts drafts = home_all (λ h. All HasParts h.items) o.homes s parts l in
     let size : bad_size o (home_at o.homes s).size ≡ [] = home_all (λ h. bad_size o h.size ≡ []) o.homes s (all_nil (λ (h : Home). bad_size o h.size) o.homes (left_nil (flat_map (λ (h : Home). bad_size o h.size) o.homes) (each_item (bad_row_of_draft o) o) h.bad_rows)) l in
     let kept : All (IsKept o (meaning o) (reading o) numbers.constants s) drafts =
-        λ k d w. record { known = names k d w; rows = rows k d w; here = here k d w; widths = widths k d w; single = single k d w; numbers = small k d w; parts = has k d w } in
+    λ k d w. record { known = names k d w; rows = rows k d w; here = here k d w; widths = widths k d w; single = single k d w; numbers = small k d w; parts = has k d w } in
     space-sound o (meaning o) (reading o) numbers.constants s l size kept (h.acyclic s)
 
 pub sound : UnbrokenIsSound

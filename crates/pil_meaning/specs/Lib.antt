@@ -3,3 +3,5 @@ pub mod Marks
 pub mod Soundness
 pub mod Fitting
 pub mod Firsts
+pub mod Closed
+pub mod Given

@@ -27,10 +27,11 @@ loop-item-preserved c =
     let x = c.item-item.result in
     let l : i < length xs = omega arith in
     let a = c.loop-item.constants in
-    let b = c.loop-item.committed in
-    (c.in_ok-push.ensures.ok
-        ∙ ap (λ (o : Option ℕ). c.loop-item.firsts ++ o ∷ []) c.first_of.ensures
-        ∙ ap (λ (s : List (Option ℕ)). s ++ first_of a b (draft x) ∷ []) c.loop-item.invariant.0
-        ∙ sym (firsts-more xs i x a b l c.item-item.is c.loop-item.invariant.1 c.loop-item.invariant.2),
-        omega (arith, c.loop-item.invariant.1, c.constant_columns-constants.ensures, sum-more constant_columns xs i x l c.item-item.is),
-        omega (arith, c.loop-item.invariant.2, c.committed_columns-committed.ensures, sum-more committed_columns xs i x l c.item-item.is))
+    let b = c.loop-item.committed in (
+      c.in_ok-push.ensures.ok
+          ∙ ap (λ (o : Option ℕ). c.loop-item.firsts ++ o ∷ []) c.first_of.ensures
+          ∙ ap (λ (s : List (Option ℕ)). s ++ first_of a b (draft x) ∷ []) c.loop-item.invariant.0
+          ∙ sym (firsts-more xs i x a b l c.item-item.is c.loop-item.invariant.1 c.loop-item.invariant.2),
+      omega (arith, c.loop-item.invariant.1, c.constant_columns-constants.ensures, sum-more constant_columns xs i x l c.item-item.is),
+      omega (arith, c.loop-item.invariant.2, c.committed_columns-committed.ensures, sum-more committed_columns xs i x l c.item-item.is),
+    )

@@ -40,10 +40,11 @@ loop-home-preserved c =
     let i = c.loop-home.home-index in
     let z : c.loop-home.number ≡ 0 + i = omega (arith, c.loop-home.invariant.0) in
     let within : i < length hs = subst (λ (hs : List H.Home). i < length hs) c.as_slice-home-items.ensures c.loop-home-test.true in
-    let here : c.home-item.result ≡ get_or hs i c.home-item.result = c.home-item.is ∙ ap (λ (hs : List H.Home). get_or hs i c.home-item.result) c.as_slice-home-items.ensures in
-    (omega (arith, c.loop-home.invariant.0),
-        ap (map namespace) c.in_ok-push.ensures.ok
-        ∙ map-append namespace c.loop-home.spaces (c.in_ok-space.space ∷ [])
-        ∙ ap (λ (n : Namespace). map namespace c.loop-home.spaces ++ n ∷ []) (c.in_ok-space.ensures ∙ ap (λ k. read_home o k (home c.home-item.result)) z)
-        ∙ ap (λ (ns : List Namespace). ns ++ read_home o (0 + i) (home c.home-item.result) ∷ []) c.loop-home.invariant.1
-        ∙ sym (homes-more o 0 hs i c.home-item.result within here))
+    let here : c.home-item.result ≡ get_or hs i c.home-item.result = c.home-item.is ∙ ap (λ (hs : List H.Home). get_or hs i c.home-item.result) c.as_slice-home-items.ensures in (
+      omega (arith, c.loop-home.invariant.0),
+      ap (map namespace) c.in_ok-push.ensures.ok
+          ∙ map-append namespace c.loop-home.spaces (c.in_ok-space.space ∷ [])
+          ∙ ap (λ (n : Namespace). map namespace c.loop-home.spaces ++ n ∷ []) (c.in_ok-space.ensures ∙ ap (λ k. read_home o k (home c.home-item.result)) z)
+          ∙ ap (λ (ns : List Namespace). ns ++ read_home o (0 + i) (home c.home-item.result) ∷ []) c.loop-home.invariant.1
+          ∙ sym (homes-more o 0 hs i c.home-item.result within here),
+    )

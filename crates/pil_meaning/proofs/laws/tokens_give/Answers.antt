@@ -1,0 +1,5 @@
+use Rattle.pil_meaning.proofs.Seen.{has_numbers, has_signs}
+use Rattle.pil_meaning.proofs.laws.tokens_give.Goals as goal
+
+pub returns : goal.returns
+returns c = record { numbers = has_numbers; signs = has_signs }
