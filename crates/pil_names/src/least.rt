@@ -4,7 +4,7 @@ ghost use Rattle.pil_names.specs.Least.{lesser, least, IsLeast};
 ghost use Rattle.pil_names.specs.Wrongs.{unless};
 
 /// The lesser of two places, each of which may be missing.
-pub(crate) fn lesser(a: Option<u64>, b: Option<u64>) -> Option<u64>
+pub fn lesser(a: Option<u64>, b: Option<u64>) -> Option<u64>
     ensures { result ≡ lesser a b }
 {
     match a {

@@ -15,7 +15,7 @@ mod unknown;
 mod widths;
 
 pub use directory::{Directory, read_directory};
-pub use least::least_is_least;
+pub use least::{least_is_least, lesser};
 pub use mixed::{home_of_identity, home_of_list, least_mixed};
 pub use names::Names;
 pub use outline::{Constant, Draft, Home, Outline, read_outline};

@@ -18,12 +18,15 @@ place_of (defined x e) = x.at
 place_of (published x r n) = x.at
 place_of _ = 0
 
--- an intermediate depends on itself
-pub record IsCyclic (o : Outline) (at : ℕ) : Type 0 where
-  pub space : ℕ
+-- an intermediate of the namespace s depends on itself, whose name stands at this place
+pub record IsCyclicIn (o : Outline) (s at : ℕ) : Type 0 where
   pub item : ℕ
-  pub cycle : IsOnCycle (space_at (meaning o) space).items item
-  pub place : at ≡ place_of (draft_at (home_at o.homes space).items item)
+  pub cycle : IsOnCycle (space_at (meaning o) s).items item
+  pub place : at ≡ place_of (draft_at (home_at o.homes s).items item)
+
+-- an intermediate depends on itself
+abbrev pub IsCyclic : Outline → ℕ → Type 0
+IsCyclic o at = (s : ℕ) × IsCyclicIn o s at
 
 -- a rule is broken at this place
 abbrev pub IsWrong : PilErrKind → Outline → ℕ → Type 0

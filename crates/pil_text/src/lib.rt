@@ -1,6 +1,7 @@
 //! Constraint texts: read, or refused by the first rule that they break, at its least place.
 #![tactic(auto)]
 
+mod cycles;
 mod error;
 mod rules;
 
