@@ -1,12 +1,11 @@
 -- The names of a short file are few.
-use Rattle.std.proofs.Common.{ℕ, zero, suc, ◌≡◌, ◌<◌, ◌≤◌, ◌+◌, ◌^◌, List, [], ◌∷◌, ◌++◌, length, sum_by, refl, arith, length-append}
+use Rattle.std.proofs.Common.{ℕ, zero, suc, ◌≤◌, List, [], ◌∷◌, length, sum_by, arith, length-append}
 use Rattle.std.specs.List.{flat_map}
 use Rattle.std.proofs.lemmas.List.Sums.{sum_by-cons}
 use Rattle.pil_syntax.specs.Tree.{Sentence, constant_is, namespace_of, columns, intermediate, public_is, identity, lookup, bus}
 use Rattle.pil_syntax.specs.Spelling.{tokens_of}
-use Rattle.pil_names.specs.Outline.{Draft, column, defined, published, equal, inside, against, Home, constants_of, items_before, homes_of, outline_of, home_at}
+use Rattle.pil_names.specs.Outline.{Draft, column, defined, published, equal, inside, against, Home, constants_of, homes_of, home_at}
 use Rattle.pil_names.specs.Finding.{published_name, public_names}
-use Rattle.pil_meaning.specs.Soundness.{IsShort}
 use Rattle.pil_meaning.specs.Given.{ShortIsCountable}
 use Rattle.pil_meaning.proofs.Signs.{weight, draft_signs, home_signs, text-signs, one-more}
 

@@ -1,5 +1,5 @@
 -- The signs of a meaning are no more than those of its text.
-use Rattle.std.proofs.Common.{ℕ, zero, suc, ◌≡◌, ◌<◌, ◌≤◌, ◌+◌, ◌^◌, List, [], ◌∷◌, ◌++◌, length, map, sum_by, count_by, cond, refl, sym, ap, arith, length-append}
+use Rattle.std.proofs.Common.{ℕ, ◌≡◌, ◌≤◌, ◌+◌, List, [], ◌∷◌, ◌++◌, length, map, sum_by, count_by, cond, refl, arith}
 use Rattle.std.proofs.lemmas.List.Sums.{sum_by-cons, sum_by-append}
 use Rattle.std.proofs.lemmas.List.{length-map}
 use Rattle.pil_token.specs.declared.token.Placed.{Placed}
@@ -8,7 +8,7 @@ use Rattle.pil_token.specs.declared.token.Word.TheVariants as words
 use Rattle.pil_syntax.specs.declared.tree.ColumnKind.{ColumnKind}
 use Rattle.pil_syntax.specs.declared.tree.ColumnKind.TheVariants as kinds
 use Rattle.pil_syntax.specs.declared.tree.Declaration.{Declaration}
-use Rattle.pil_syntax.specs.Tree.{Term, Tuple, Sentence, constant_is, namespace_of, columns, intermediate, public_is, identity, lookup, bus}
+use Rattle.pil_syntax.specs.Tree.{Tuple, Sentence, constant_is, namespace_of, columns, intermediate, public_is, identity, lookup, bus}
 use Rattle.pil_syntax.specs.Spelling.{mark, marked, word, joined, term_tokens, filter_tokens, tuple_tokens, declaration_tokens, kind_word, sentence_tokens, tokens_of}
 use Rattle.pil_ast.specs.Term.{Namespace}
 use Rattle.pil_ast.specs.Sound.{signs_of_lists, signs_of_item, signs}

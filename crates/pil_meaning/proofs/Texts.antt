@@ -1,10 +1,10 @@
 -- A text has the signs of its tokens.
-use Rattle.std.proofs.Common.{ℕ, zero, suc, ◌≡◌, ◌<◌, ◌≤◌, ◌+◌, ◌-◌, List, [], ◌∷◌, ◌++◌, length, drop, sum_by, cond, Bool, true, false, Result, Ok, Err, Option, Some, None, refl, sym, ap, subst, ◌∙◌, arith}
+use Rattle.std.proofs.Common.{ℕ, zero, suc, ◌≡◌, ◌≤◌, ◌+◌, ◌-◌, List, [], ◌∷◌, length, drop, sum_by, cond, Bool, true, false, Result, Ok, Err, Option, Some, None, refl, sym, subst, arith}
 use Rattle.std.specs.Prelude.{◌==◌, if◌then◌else◌, take_while, nat_lt, codes, nat_eq, not}
 use Rattle.std.specs.List.{starts_with}
 use Rattle.std.specs.Char.{is_digit}
 use Rattle.std.specs.Str.Parse.{digits_value}
-use Rattle.std.proofs.lemmas.Bool.{eqb-true, false≢true, cases_Bool}
+use Rattle.std.proofs.lemmas.Bool.{eqb-true, false≢true}
 use Rattle.std.proofs.lemmas.List.Sums.{sum_by-cons}
 use Rattle.pil_token.specs.declared.token.Mark.{Mark}
 use Rattle.pil_token.specs.declared.token.Mark.TheVariants.{Percent, Equals, Semicolon, OpenParen, CloseParen, OpenBrace, CloseBrace, OpenBracket, CloseBracket, Comma, Dot, Prime, Plus, Minus, Star, Colon}
@@ -18,7 +18,7 @@ use Rattle.pil_token.specs.declared.token.LexErr.{LexErr}
 use Rattle.pil_token.specs.declared.token.Placed.{Placed}
 use Rattle.pil_token.specs.Spelling.{begins_name, continues_name, word_of, mark_of}
 use Rattle.pil_token.specs.Tokens.{is_blank, worded, word_like, digits_at, numbered, hexadecimal_at, numeral, closed, enclosed, is_feed, comment, marked, begins, led, pieced, lexed_from}
-use Rattle.pil_meaning.specs.Soundness.{is_sign_of, is_sign}
+use Rattle.pil_meaning.specs.Soundness.{is_sign_of}
 use Rattle.pil_meaning.specs.Given.{is_sign_byte, TextHasSigns}
 use Rattle.pil_meaning.proofs.Signs.{weight}
 
