@@ -1,5 +1,5 @@
 -- The intermediates of a namespace name each other alone where no name is unknown or of another namespace.
-use Rattle.std.proofs.Common.{ℕ, zero, suc, ◌≡◌, ◌<◌, ◌≤◌, ◌+◌, ◌^◌, List, [], ◌∷◌, ◌++◌, length, map, All, Bool, Option, Some, None, refl, sym, ap, subst, ◌∙◌, arith}
+use Rattle.std.proofs.Common.{ℕ, zero, suc, ◌≡◌, ◌<◌, ◌≤◌, ◌^◌, List, [], ◌∷◌, ◌++◌, length, map, All, Option, Some, None, refl, sym, ap, subst, ◌∙◌, arith}
 use Rattle.std.specs.Prelude.{unwrap_or, is_some, nat_eq}
 use Rattle.std.specs.List.{flat_map}
 use Rattle.std.proofs.lemmas.Grind.{flat_map-append}
@@ -8,15 +8,13 @@ use Rattle.std.proofs.lemmas.List.Elements.{All-head, All-tail}
 use Rattle.std.proofs.lemmas.Bool.{eqb-true}
 use Rattle.pil_syntax.specs.declared.tree.Reference.{Reference}
 use Rattle.pil_syntax.specs.declared.tree.ColumnKind.TheVariants.{Constant, Commit}
-use Rattle.pil_syntax.specs.Tree.{Term, num, col, constant, public, opp, group, ◌⊕◌, ◌⊖◌, ◌⊗◌, Sentence}
-use Rattle.pil_syntax.specs.Spelling.{tokens_of}
+use Rattle.pil_syntax.specs.Tree.{Term, num, col, constant, public, opp, group, ◌⊕◌, ◌⊖◌, ◌⊗◌}
 use Rattle.pil_ast.specs.Term as ast
 use Rattle.pil_ast.specs.Sound.{NamesOnly, signs}
 use Rattle.pil_names.specs.Outline.{Draft, column, defined, published, equal, inside, against, Home, Outline, home_at, draft_at, outline_of}
 use Rattle.pil_names.specs.Finding.{home_named, item_named}
-use Rattle.pil_names.specs.Wrongs.{each_item, references, terms_of, unknown, mixed, unknown_in_item, unknown_in_home, unknown_reference, unknown_in_term, unknown_in_public, unknown_in_draft, unknown_in_size, stray, mixed_in_draft}
+use Rattle.pil_names.specs.Wrongs.{each_item, references, unknown_in_home, unknown_reference, unknown_in_term, unknown_in_draft, unknown_in_size, stray, mixed_in_draft}
 use Rattle.pil_meaning.specs.Meaning.{named_item, read_in, read_reference, read_term, read_draft, meaning}
-use Rattle.pil_meaning.specs.Soundness.{IsShort}
 use Rattle.pil_meaning.specs.Closed.{IsClosed, NamedIsClosed}
 use Rattle.pil_meaning.proofs.Nothing.{left_nil, right_nil, unless_true, each_draft}
 use Rattle.pil_meaning.proofs.Found.{found_polynomial, home_below}
@@ -64,15 +62,18 @@ module _ (o : Outline) (ns : List ast.Namespace) (read : IsReading o ns) where
   term-inside s m (public x) l u e = tt
   term-inside s m (opp a) l u e = term-inside s m a l u e
   term-inside s m (group a) l u e = term-inside s m a l u e
-  term-inside s m (a ⊕ b) l u e =
-      (term-inside s m a l (left_nil (unknown_in_term o s a) (unknown_in_term o s b) u) (left_nil (flat_map (stray o s m) (references a)) (flat_map (stray o s m) (references b)) (split s m a b e)),
-          term-inside s m b l (right_nil (unknown_in_term o s a) (unknown_in_term o s b) u) (right_nil (flat_map (stray o s m) (references a)) (flat_map (stray o s m) (references b)) (split s m a b e)))
-  term-inside s m (a ⊖ b) l u e =
-      (term-inside s m a l (left_nil (unknown_in_term o s a) (unknown_in_term o s b) u) (left_nil (flat_map (stray o s m) (references a)) (flat_map (stray o s m) (references b)) (split s m a b e)),
-          term-inside s m b l (right_nil (unknown_in_term o s a) (unknown_in_term o s b) u) (right_nil (flat_map (stray o s m) (references a)) (flat_map (stray o s m) (references b)) (split s m a b e)))
-  term-inside s m (a ⊗ b) l u e =
-      (term-inside s m a l (left_nil (unknown_in_term o s a) (unknown_in_term o s b) u) (left_nil (flat_map (stray o s m) (references a)) (flat_map (stray o s m) (references b)) (split s m a b e)),
-          term-inside s m b l (right_nil (unknown_in_term o s a) (unknown_in_term o s b) u) (right_nil (flat_map (stray o s m) (references a)) (flat_map (stray o s m) (references b)) (split s m a b e)))
+  term-inside s m (a ⊕ b) l u e = (
+    term-inside s m a l (left_nil (unknown_in_term o s a) (unknown_in_term o s b) u) (left_nil (flat_map (stray o s m) (references a)) (flat_map (stray o s m) (references b)) (split s m a b e)),
+    term-inside s m b l (right_nil (unknown_in_term o s a) (unknown_in_term o s b) u) (right_nil (flat_map (stray o s m) (references a)) (flat_map (stray o s m) (references b)) (split s m a b e)),
+  )
+  term-inside s m (a ⊖ b) l u e = (
+    term-inside s m a l (left_nil (unknown_in_term o s a) (unknown_in_term o s b) u) (left_nil (flat_map (stray o s m) (references a)) (flat_map (stray o s m) (references b)) (split s m a b e)),
+    term-inside s m b l (right_nil (unknown_in_term o s a) (unknown_in_term o s b) u) (right_nil (flat_map (stray o s m) (references a)) (flat_map (stray o s m) (references b)) (split s m a b e)),
+  )
+  term-inside s m (a ⊗ b) l u e = (
+    term-inside s m a l (left_nil (unknown_in_term o s a) (unknown_in_term o s b) u) (left_nil (flat_map (stray o s m) (references a)) (flat_map (stray o s m) (references b)) (split s m a b e)),
+    term-inside s m b l (right_nil (unknown_in_term o s a) (unknown_in_term o s b) u) (right_nil (flat_map (stray o s m) (references a)) (flat_map (stray o s m) (references b)) (split s m a b e)),
+  )
 
   -- what the k-th of these items of the namespace s names is among its items
   items-inside : (s : ℕ) (ds : List Draft) (k : ℕ) → s < length o.homes → All (λ d. unknown_in_draft o s d ≡ []) ds → All (λ d. mixed_in_draft o s d ≡ []) ds → IsInside s (ast.inter_at (map (read_draft o s) ds) k)
@@ -100,7 +101,7 @@ closed ss short u e =
     let o : Outline = outline_of ss in
     let few : signs (meaning o) ≤ 2 ^ 20 = omega (arith, short, meaning-signs ss) in
     all-spaces (λ n. IsClosed n.items) (meaning o) (λ s l.
-      let l' : s < length o.homes = omega (arith, (reading o).long, l) in
-      space-closed o (meaning o) (reading o) s l' few
-      (each_draft (unknown_in_draft o) o s (right_nil (flat_map (λ (h : Home). unknown_in_size o h.size) o.homes) (each_item (unknown_in_draft o) o) u) l')
-      (each_draft (mixed_in_draft o) o s e l'))
+    let l' : s < length o.homes = omega (arith, (reading o).long, l) in
+    space-closed o (meaning o) (reading o) s l' few
+    (each_draft (unknown_in_draft o) o s (right_nil (flat_map (λ (h : Home). unknown_in_size o h.size) o.homes) (each_item (unknown_in_draft o) o) u) l')
+    (each_draft (mixed_in_draft o) o s e l'))

@@ -1,14 +1,13 @@
 -- The numbers of columns as the items are gone over.
 use Rattle.std.proofs.Common.{ℕ, zero, suc, ◌≡◌, ◌<◌, ◌≤◌, ◌+◌, List, [], ◌∷◌, ◌++◌, length, get_or, map, take, sum_by, Option, refl, sym, ap, ◌∙◌, arith}
 use Rattle.std.specs.List.{range_with_len}
-use Rattle.std.proofs.lemmas.List.{take_more, length-map}
-use Rattle.std.proofs.lemmas.List.Sums.{sum_by-cons, sum_by_push}
+use Rattle.std.proofs.lemmas.List.Sums.{sum_by-cons}
 use Rattle.std.proofs.lemmas.List.FromFn.{map-range_with_len_more}
 use Rattle.pil_syntax.specs.declared.tree.ColumnKind.TheVariants.{Constant, Commit}
 use Rattle.pil_names.specs.declared.outline.Draft as D
 use Rattle.pil_names.specs.Outline.{Draft, draft_at}
 use Rattle.pil_names.specs.Shown.{draft}
-use Rattle.pil_meaning.specs.Meaning.{constant_columns, committed_columns, start_of_kind}
+use Rattle.pil_meaning.specs.Meaning.{start_of_kind}
 use Rattle.pil_meaning.specs.Firsts.{first_of, first_at}
 
 pub sum_by-map : {X Y : Type 0} (f : Y → ℕ) (g : X → Y) (xs : List X) → sum_by f (map g xs) ≡ sum_by (λ x. f (g x)) xs

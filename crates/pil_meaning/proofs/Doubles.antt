@@ -1,12 +1,12 @@
 -- A mark on what a reference names is double where the lists of marks tell so.
-use Rattle.std.proofs.Common.{ℕ, zero, suc, ◌≡◌, ◌+◌, List, [], ◌∷◌, length, map, slice_index_or, Bool, true, false, not, Option, Some, None, refl, sym, ap, subst, ◌∙◌, arith}
+use Rattle.std.proofs.Common.{ℕ, zero, suc, ◌≡◌, ◌+◌, List, [], ◌∷◌, map, Bool, false, not, Option, Some, refl, sym, ap, subst, ◌∙◌, arith}
 use Rattle.std.specs.Prelude.{unwrap_or, is_some}
 use Rattle.pil_syntax.specs.declared.tree.Number.{Number}
 use Rattle.pil_syntax.specs.declared.tree.Reference.{Reference}
 use Rattle.pil_syntax.specs.declared.tree.ColumnKind.{ColumnKind}
 use Rattle.pil_syntax.specs.declared.tree.ColumnKind.TheVariants.{Constant, Commit}
 use Rattle.pil_syntax.specs.declared.tree.Declaration.{Declaration}
-use Rattle.pil_ast.specs.Term.{Line, num, body_of, inter_at, space_at}
+use Rattle.pil_ast.specs.Term.{num, body_of, inter_at, space_at}
 use Rattle.pil_names.specs.Outline.{Draft, column, defined, published, equal, inside, against, Home, Outline, home_at, draft_at}
 use Rattle.pil_names.specs.Finding.{home_named, item_named}
 use Rattle.pil_names.specs.Wrongs.{unless}

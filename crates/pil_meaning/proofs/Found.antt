@@ -1,10 +1,10 @@
 -- What a name that is found stands for.
-use Rattle.std.proofs.Common.{ℕ, zero, suc, ◌≡◌, ◌<◌, ◌≤◌, ◌+◌, List, [], ◌∷◌, length, map, Bool, true, false, Option, Some, None, refl, arith}
+use Rattle.std.proofs.Common.{ℕ, zero, suc, ◌≡◌, ◌<◌, ◌+◌, List, [], ◌∷◌, length, map, Bool, true, false, Option, Some, None, arith}
 use Rattle.std.specs.Prelude.{bytes_eq, if◌then◌else◌}
 use Rattle.std.proofs.lemmas.List.{length-map}
 use Rattle.pil_syntax.specs.declared.tree.Ident.{Ident}
 use Rattle.pil_names.specs.Outline.{Draft, column, defined, published, equal, inside, against, Outline, draft_at}
-use Rattle.pil_names.specs.Finding.{Entry, found, numbered, polynomials_from, home_named}
+use Rattle.pil_names.specs.Finding.{found, numbered, polynomials_from, home_named}
 
 pub found_below : (x : List ℕ) (n : ℕ) (xs : List Ident) (k : ℕ) → found x (numbered n xs) ≡ Some k → k < n + length xs
 found_below x n [] k e = let no : ⊥ = cc in absurd no

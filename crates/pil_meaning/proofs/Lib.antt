@@ -18,3 +18,5 @@ pub mod Sums
 pub mod Doubles
 pub mod Closing
 pub mod Seen
+pub mod Texts
+pub mod Counts

@@ -1,5 +1,5 @@
 -- Items that break no rule are read as sound ones, and so is a text.
-use Rattle.std.proofs.Common.{ℕ, zero, suc, ◌≡◌, ◌<◌, ◌≤◌, ◌+◌, ◌^◌, List, [], ◌∷◌, ◌++◌, length, map, slice_index_or, All, Bool, true, false, Option, Some, None, refl, sym, ap, subst, ◌∙◌, arith}
+use Rattle.std.proofs.Common.{ℕ, ◌≡◌, ◌<◌, ◌^◌, List, [], ◌∷◌, ◌++◌, length, map, slice_index_or, All, true, Option, Some, None, refl, sym, subst, ◌∙◌, arith}
 use Rattle.std.specs.Prelude.{unwrap_or, is_none, nat_eq, nat_lt, nat_le, ◌&&◌}
 use Rattle.std.specs.List.{flat_map}
 use Rattle.std.proofs.lemmas.Grind.{flat_map-append}
@@ -10,14 +10,13 @@ use Rattle.gold.specs.Field.{p}
 use Rattle.pil_syntax.specs.declared.tree.Ident.{Ident}
 use Rattle.pil_syntax.specs.declared.tree.Number.{Number}
 use Rattle.pil_syntax.specs.declared.tree.Reference.{Reference}
-use Rattle.pil_syntax.specs.declared.tree.Declaration.{Declaration}
 use Rattle.pil_syntax.specs.declared.tree.ColumnKind.TheVariants.{Constant, Commit}
 use Rattle.pil_syntax.specs.Tree.{Term, col, Filter, every, by_col, by_group, Tuple}
 use Rattle.pil_ast.specs.Term as ast
 use Rattle.pil_ast.specs.Sound.{IsOf, IsSelector, IsList, IsLength, IsItem, IsSpace, IsAcyclic}
-use Rattle.pil_names.specs.Outline.{Draft, column, defined, published, equal, inside, against, Home, Outline, home_at, draft_at}
+use Rattle.pil_names.specs.Outline.{Draft, column, defined, published, equal, inside, against, Outline, home_at}
 use Rattle.pil_names.specs.Finding.{home_named}
-use Rattle.pil_names.specs.Wrongs.{each_name, references, selectors_of, terms_of_list, terms_of, unknown_in_home, unknown_reference, unknown_published, unknown_in_term, unknown_in_public, unknown_in_draft, is_public_in, rows_of, bad_size, bad_public_row, bad_row_of_draft, size_place, home_or, first_home, home_of_terms, stray, strays, mixed_in, mixed_in_draft, wrong_length, other_width, other_widths, width_of_first, wrong_widths_of}
+use Rattle.pil_names.specs.Wrongs.{each_name, references, selectors_of, terms_of_list, terms_of, unknown_in_home, unknown_reference, unknown_published, unknown_in_term, unknown_in_public, unknown_in_draft, is_public_in, rows_of, bad_size, bad_public_row, bad_row_of_draft, size_place, first_home, home_of_terms, stray, strays, mixed_in, mixed_in_draft, wrong_length, other_widths, width_of_first, wrong_widths_of}
 use Rattle.pil_meaning.specs.Meaning.{length_number, column_number, read_reference, read_term, read_filter, read_tuple, read_draft}
 use Rattle.pil_meaning.specs.Marks.{double_at}
 use Rattle.pil_meaning.specs.Soundness.{IsInField}

@@ -1,14 +1,13 @@
 -- Lists of what is read, and the namespaces as they are read one after another.
-use Rattle.std.proofs.Common.{ℕ, zero, suc, ◌≡◌, ◌<◌, ◌≤◌, ◌+◌, ◌^◌, List, [], ◌∷◌, ◌++◌, length, get_or, map, take, All, Option, refl, sym, ap, subst, ◌∙◌, arith}
-use Rattle.std.proofs.lemmas.List.{length-map}
+use Rattle.std.proofs.Common.{ℕ, zero, suc, ◌≡◌, ◌<◌, ◌+◌, List, [], ◌∷◌, ◌++◌, length, get_or, map, take, All, Option, refl, sym, ap, subst, ◌∙◌, arith}
 use Rattle.std.proofs.lemmas.List.Elements.{All-nil, All-cons, All-head, All-tail}
 use Rattle.pil_ast.specs.Term.{Term, Tuples, Line, Namespace}
 use Rattle.pil_names.specs.declared.outline.Home as H
-use Rattle.pil_names.specs.Outline.{Home, Outline}
+use Rattle.pil_names.specs.Outline.{Outline}
 use Rattle.pil_names.specs.Shown.{home}
 use Rattle.pil_meaning.specs.Meaning.{read_home, read_homes}
 use Rattle.pil_meaning.specs.Fitting.{FitsSpace}
-use Rattle.pil_meaning.specs.Firsts.{FewColumns, firsts_of_items}
+use Rattle.pil_meaning.specs.Firsts.{FewColumns}
 use Rattle.pil_meaning.proofs.Widths.{width-read}
 
 pub all-mapped : {X Y : Type 0} (P : Y → Type 0) (f : X → Y) (xs : List X) → All P (map f xs) → All (λ x. P (f x)) xs

@@ -1,11 +1,11 @@
 -- The marks that a list has as the items get theirs.
 use Rattle.std.proofs.Common.{ℕ, zero, suc, ◌≡◌, ◌<◌, ◌≤◌, ◌+◌, List, [], ◌∷◌, ◌++◌, length, get_or, set, map, take, slice_get, slice_index_or, All, Contains, Bool, true, false, not, None, refl, sym, ap, subst, ◌∙◌, arith, inl, inr, ◌⊎◌}
 use Rattle.std.proofs.lemmas.Bool.{cases_lt, cases_eq, cases_Bool, false≢true}
-use Rattle.std.proofs.lemmas.List.{take_more, take_all, map-append, length-map, length_push, length-set, get_or-set_same, get_or-set_other, get_or_past, get_or_append_left, get_or_push, get_or_default}
+use Rattle.std.proofs.lemmas.List.{take_more, map-append, length-map, length_push, length-set, get_or-set_same, get_or-set_other, get_or_past, get_or_append_left, get_or_push}
 use Rattle.std.proofs.lemmas.List.Elements.{Contains-push_cases, All-get_or}
 use Rattle.pil_ast.specs.declared.turns.Turn.{Turn}
 use Rattle.pil_ast.specs.declared.tree.Space.{Space}
-use Rattle.pil_ast.specs.Tree.{namespace, line}
+use Rattle.pil_ast.specs.Tree.{namespace}
 use Rattle.pil_ast.specs.Term.{Line, constant, commit, inter, published, identity, lookup, bus, num, Namespace, item_at, body_of, inter_at, space_at}
 use Rattle.pil_ast.specs.Sound.{IsInter}
 use Rattle.pil_ast.specs.Written.{marked}

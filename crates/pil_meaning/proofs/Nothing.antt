@@ -1,8 +1,8 @@
 -- Lists of wrong places that are empty, and what holds of parts of lists.
-use Rattle.std.proofs.Common.{ℕ, zero, suc, ◌≡◌, ◌<◌, ◌≤◌, ◌+◌, List, [], ◌∷◌, ◌++◌, length, Bool, true, false, All, refl, subst, arith}
+use Rattle.std.proofs.Common.{ℕ, zero, suc, ◌≡◌, ◌<◌, ◌+◌, List, [], ◌∷◌, ◌++◌, length, Bool, true, false, All, refl, subst, arith}
 use Rattle.std.specs.List.{flat_map}
 use Rattle.std.proofs.lemmas.List.Elements.{All-nil, All-cons, All-head, All-tail}
-use Rattle.pil_names.specs.Outline.{Draft, Home, Outline, home_at, draft_at}
+use Rattle.pil_names.specs.Outline.{Draft, Home, Outline, home_at}
 use Rattle.pil_names.specs.Wrongs.{each_from, each_item, unless}
 
 pub left_nil : {X : Type 0} (xs ys : List X) → xs ++ ys ≡ [] → xs ≡ []

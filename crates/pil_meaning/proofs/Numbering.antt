@@ -1,16 +1,15 @@
 -- The number of an item's first column gives what a reference to it stands for.
-use Rattle.std.proofs.Common.{ℕ, zero, suc, ◌≡◌, ◌<◌, ◌≤◌, ◌+◌, List, [], ◌∷◌, length, get_or, map, slice_get, slice_index_or, Bool, Option, Some, None, refl, sym, ap, ◌∙◌, arith, inl, inr}
+use Rattle.std.proofs.Common.{ℕ, zero, suc, ◌≡◌, ◌≤◌, ◌+◌, List, [], ◌∷◌, length, map, slice_get, slice_index_or, Bool, Option, Some, None, refl, sym, ap, ◌∙◌, arith, inl, inr}
 use Rattle.std.specs.Prelude.{is_some}
-use Rattle.std.specs.List.{range_with_len}
 use Rattle.std.proofs.lemmas.Bool.{cases_lt}
-use Rattle.std.proofs.lemmas.List.{get_or_past, length-map}
+use Rattle.std.proofs.lemmas.List.{get_or_past}
 use Rattle.std.proofs.lemmas.List.FromFn.{get_or-map-range_with_len, length-map-range_with_len}
 use Rattle.pil_syntax.specs.declared.tree.Number.{Number}
 use Rattle.pil_syntax.specs.declared.tree.Reference.{Reference}
 use Rattle.pil_syntax.specs.declared.tree.ColumnKind.TheVariants.{Constant, Commit}
-use Rattle.pil_ast.specs.Term.{Term, col, mid}
+use Rattle.pil_ast.specs.Term.{col, mid}
 use Rattle.pil_names.specs.Outline.{Draft, column, defined, published, equal, inside, against, Home, Outline, home_at, draft_at}
-use Rattle.pil_meaning.specs.Meaning.{start_of_kind, number_or_zero, named_item, read_in, column_number}
+use Rattle.pil_meaning.specs.Meaning.{start_of_kind, number_or_zero, named_item, read_in}
 use Rattle.pil_meaning.specs.Firsts.{first_of, first_at, first_in, firsts_of_items, firsts_of}
 
 pub none-at : (xs : List (Option ℕ)) (k : ℕ) → slice_get xs k ≡ None → slice_index_or xs k None ≡ None

@@ -1,11 +1,11 @@
 -- In a file each list has an expression, and each side of an `is` a list.
-use Rattle.std.proofs.Common.{ℕ, ◌≤◌, List, [], ◌∷◌, ◌++◌, length, map, All, Bool, true, arith}
+use Rattle.std.proofs.Common.{◌≤◌, List, [], ◌∷◌, ◌++◌, length, map, All, Bool, true, arith}
 use Rattle.std.proofs.lemmas.List.Elements.{All-nil, All-cons, All-append}
 use Rattle.pil_syntax.specs.declared.tree.ColumnKind.{ColumnKind}
 use Rattle.pil_syntax.specs.declared.tree.Declaration.{Declaration}
 use Rattle.pil_syntax.specs.Tree.{Tuple, Sentence, constant_is, namespace_of, columns, intermediate, public_is, identity, lookup, bus}
 use Rattle.pil_syntax.specs.Grammar.{Limits, EachOf, IsTuple, IsWhole, IsSentence, IsFile}
-use Rattle.pil_names.specs.Outline.{Draft, column, defined, published, equal, inside, against, Home, drafts_of, items_before, homes_of}
+use Rattle.pil_names.specs.Outline.{Draft, column, defined, published, equal, inside, against, drafts_of, items_before, homes_of}
 use Rattle.pil_names.specs.Wrongs.{width_of_first}
 
 abbrev pub HasParts : Draft → Type 0

@@ -1,6 +1,6 @@
 -- The numbers of a text fit that breaks no rule of names, rows and widths.
-use Rattle.std.proofs.Common.{ℕ, zero, suc, ◌≡◌, ◌<◌, ◌≤◌, ◌+◌, ◌*◌, ◌^◌, List, [], ◌∷◌, ◌++◌, length, map, sum_by, slice_index_or, All, Bool, true, false, Option, Some, None, refl, sym, ap, subst, ◌∙◌, arith}
-use Rattle.std.specs.Prelude.{unwrap_or, is_some, is_none, nat_lt, nat_le, ◌&&◌}
+use Rattle.std.proofs.Common.{ℕ, zero, suc, ◌≡◌, ◌<◌, ◌≤◌, ◌+◌, ◌*◌, ◌^◌, List, [], ◌∷◌, ◌++◌, length, map, sum_by, slice_index_or, All, Option, Some, None, refl, sym, ap, subst, arith}
+use Rattle.std.specs.Prelude.{unwrap_or, is_some, nat_lt, nat_le, ◌&&◌}
 use Rattle.std.specs.List.{flat_map}
 use Rattle.std.proofs.lemmas.List.{length-map}
 use Rattle.std.proofs.lemmas.List.Sums.{sum_by-cons}
@@ -10,16 +10,15 @@ use Rattle.gold.specs.Field.{p}
 use Rattle.pil_syntax.specs.declared.tree.Number.{Number}
 use Rattle.pil_syntax.specs.declared.tree.Reference.{Reference}
 use Rattle.pil_syntax.specs.declared.tree.ColumnKind.TheVariants.{Constant, Commit}
-use Rattle.pil_syntax.specs.Tree.{Term, num, col, constant, public, opp, group, ◌⊕◌, ◌⊖◌, ◌⊗◌, Filter, every, by_col, by_group, Tuple, Sentence}
-use Rattle.pil_syntax.specs.Spelling.{tokens_of}
+use Rattle.pil_syntax.specs.Tree.{Term, num, col, constant, public, opp, group, ◌⊕◌, ◌⊖◌, ◌⊗◌, Filter, every, by_col, by_group, Tuple}
 use Rattle.pil_ast.specs.Term as ast
 use Rattle.pil_ast.specs.Sound.{signs_of_item, signs}
 use Rattle.pil_names.specs.Outline.{Draft, column, defined, published, equal, inside, against, Home, Outline, home_at, draft_at, outline_of}
 use Rattle.pil_names.specs.Finding.{found, constant_entries, home_named, item_named}
-use Rattle.pil_names.specs.Wrongs.{each_item, selectors_of, terms_of_list, terms_of, unknown, bad_rows, wrong_widths, unknown_index, unknown_in_item, unknown_in_home, unknown_reference, unknown_published, unknown_in_term, unknown_in_public, unknown_in_draft, unknown_in_size, length_of, rows_of, bad_size, bad_public_row, bad_row_of_draft, size_place, wrong_length, wrong_widths_of, value_of_constant}
+use Rattle.pil_names.specs.Wrongs.{each_item, selectors_of, terms_of_list, terms_of, unknown, bad_rows, wrong_widths, unknown_index, unknown_in_item, unknown_in_home, unknown_reference, unknown_published, unknown_in_term, unknown_in_draft, unknown_in_size, length_of, rows_of, bad_size, bad_public_row, bad_row_of_draft, size_place, wrong_length, wrong_widths_of}
 use Rattle.pil_meaning.specs.Meaning.{length_or_one, length_number, constant_columns, committed_columns, named_item, read_in, read_reference, read_term, read_filter, read_tuple, read_draft, column_number, meaning}
-use Rattle.pil_meaning.specs.Soundness.{IsInField, HasNumbers, IsShort}
-use Rattle.pil_meaning.specs.Fitting.{FitsTerm, FitsSelector, FitsList, FitsLength, FitsLine, FitsSpace, Fits, NamedFits}
+use Rattle.pil_meaning.specs.Soundness.{IsInField, HasNumbers}
+use Rattle.pil_meaning.specs.Fitting.{FitsTerm, FitsSelector, FitsList, FitsLength, FitsLine, FitsSpace, NamedFits}
 use Rattle.pil_meaning.proofs.Nothing.{left_nil, right_nil, all_nil, unless_true, each_draft, home_all, all_left, all_right, all_parts}
 use Rattle.pil_meaning.proofs.Found.{found_polynomial, home_below}
 use Rattle.pil_meaning.proofs.Places.{IsReading, reading}

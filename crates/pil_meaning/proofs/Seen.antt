@@ -1,9 +1,8 @@
 -- What the tokens of a file give.
-use Rattle.std.proofs.Common.{ℕ, ◌≡◌, ◌<◌, ◌+◌, List, [], ◌∷◌, ◌++◌, map, sum_by, cond, Bool, true, All, Option, Some, None, refl, sym, ap, subst, ◌∙◌, arith}
+use Rattle.std.proofs.Common.{ℕ, ◌≡◌, ◌<◌, List, [], ◌∷◌, ◌++◌, map, sum_by, cond, Bool, All, refl, sym, ap, subst, ◌∙◌, arith}
 use Rattle.std.specs.List.{flat_map}
 use Rattle.std.proofs.lemmas.List.Sums.{sum_by-cons}
 use Rattle.std.proofs.lemmas.List.Elements.{All-nil, All-cons, All-head, All-tail, All-append}
-use Rattle.pil_token.specs.declared.token.Mark.{Mark}
 use Rattle.pil_token.specs.declared.token.Mark.TheVariants.{Percent, Equals, Semicolon, OpenParen, CloseParen, OpenBrace, CloseBrace, OpenBracket, CloseBracket, Comma, Dot, Prime, Plus, Minus, Star, Colon}
 use Rattle.pil_token.specs.declared.token.Word.TheVariants as words
 use Rattle.pil_token.specs.declared.token.Token.{Token}
@@ -14,10 +13,10 @@ use Rattle.pil_syntax.specs.declared.tree.ColumnKind.{ColumnKind}
 use Rattle.pil_syntax.specs.declared.tree.Declaration.{Declaration}
 use Rattle.pil_syntax.specs.Tree.{Term, num, col, constant, public, opp, group, ◌⊕◌, ◌⊖◌, ◌⊗◌, Filter, every, by_col, by_group, Tuple, Sentence, constant_is, namespace_of, columns, intermediate, public_is, identity, lookup, bus}
 use Rattle.pil_syntax.specs.Spelling.{kept, seen, mark, marked, word, name, numeral, term_tokens, filter_tokens, joined, tuple_tokens, sentence_tokens, tokens_of}
-use Rattle.pil_names.specs.Outline.{Named, Draft, column, defined, published, equal, inside, against, Home, constants_of, drafts_of, items_before, homes_of, outline_of}
+use Rattle.pil_names.specs.Outline.{Named, Draft, column, defined, published, equal, inside, against, Home, constants_of, drafts_of, items_before, homes_of}
 use Rattle.pil_names.specs.Wrongs.{selectors_of, terms_of_list, terms_of}
 use Rattle.gold.specs.Field.{p}
-use Rattle.pil_meaning.specs.Soundness.{IsInField, HasNumbers, is_sign_of, is_sign}
+use Rattle.pil_meaning.specs.Soundness.{IsInField, is_sign_of, is_sign}
 use Rattle.pil_meaning.specs.Given.{TokensHaveNumbers, TokensHaveSigns}
 use Rattle.pil_meaning.proofs.Nothing.{all_left, all_right}
 

@@ -1,5 +1,5 @@
 -- The signs of a meaning are no more than those of its text.
-use Rattle.std.proofs.Common.{ℕ, zero, suc, ◌≡◌, ◌<◌, ◌≤◌, ◌+◌, ◌^◌, List, [], ◌∷◌, ◌++◌, length, map, sum_by, count_by, cond, refl, sym, ap, arith, length-append}
+use Rattle.std.proofs.Common.{ℕ, ◌≡◌, ◌≤◌, ◌+◌, List, [], ◌∷◌, ◌++◌, length, map, sum_by, count_by, cond, refl, arith}
 use Rattle.std.proofs.lemmas.List.Sums.{sum_by-cons, sum_by-append}
 use Rattle.std.proofs.lemmas.List.{length-map}
 use Rattle.pil_token.specs.declared.token.Placed.{Placed}
@@ -8,7 +8,7 @@ use Rattle.pil_token.specs.declared.token.Word.TheVariants as words
 use Rattle.pil_syntax.specs.declared.tree.ColumnKind.{ColumnKind}
 use Rattle.pil_syntax.specs.declared.tree.ColumnKind.TheVariants as kinds
 use Rattle.pil_syntax.specs.declared.tree.Declaration.{Declaration}
-use Rattle.pil_syntax.specs.Tree.{Term, Tuple, Sentence, constant_is, namespace_of, columns, intermediate, public_is, identity, lookup, bus}
+use Rattle.pil_syntax.specs.Tree.{Tuple, Sentence, constant_is, namespace_of, columns, intermediate, public_is, identity, lookup, bus}
 use Rattle.pil_syntax.specs.Spelling.{mark, marked, word, joined, term_tokens, filter_tokens, tuple_tokens, declaration_tokens, kind_word, sentence_tokens, tokens_of}
 use Rattle.pil_ast.specs.Term.{Namespace}
 use Rattle.pil_ast.specs.Sound.{signs_of_lists, signs_of_item, signs}
@@ -16,19 +16,19 @@ use Rattle.pil_names.specs.Outline.{Draft, column, defined, published, equal, in
 use Rattle.pil_meaning.specs.Meaning.{read_term, read_tuple, read_draft, read_home, read_homes, meaning}
 use Rattle.pil_meaning.specs.Soundness.{is_sign}
 
-abbrev weight : Placed → ℕ
+abbrev pub weight : Placed → ℕ
 weight t = cond (is_sign t) 1 0
 
 -- an item's signs
 abbrev lists_signs : List Tuple → ℕ
 lists_signs ls = sum_by (λ l. length l.entries) ls
 
-abbrev draft_signs : Draft → ℕ
+abbrev pub draft_signs : Draft → ℕ
 draft_signs (inside a b) = 1 + length a.entries + length b.entries
 draft_signs (against ls rs) = 1 + lists_signs ls + lists_signs rs
 draft_signs _ = 1
 
-abbrev home_signs : Home → ℕ
+abbrev pub home_signs : Home → ℕ
 home_signs h = 1 + sum_by draft_signs h.items
 
 -- those of a meaning
@@ -98,13 +98,13 @@ drafts-signs (lookup a b) =
 drafts-signs (bus ls rs) =
     omega (arith, sum_by-cons draft_signs (against ls rs) [], two-lists (lists_signs ls) (lists_signs rs) (joined Plus tuple_tokens ls) (joined Plus tuple_tokens rs) (word words.Is) (tuples-signs ls) (tuples-signs rs))
 
-one-more : (s : Sentence) (ss : List Sentence) → sum_by weight (tokens_of (s ∷ ss)) ≡ sum_by weight (sentence_tokens s) + 1 + sum_by weight (tokens_of ss)
+pub one-more : (s : Sentence) (ss : List Sentence) → sum_by weight (tokens_of (s ∷ ss)) ≡ sum_by weight (sentence_tokens s) + 1 + sum_by weight (tokens_of ss)
 one-more s ss = omega (arith, sum_by-append weight (sentence_tokens s) (mark Semicolon ∷ tokens_of ss), sum_by-cons weight (mark Semicolon) (tokens_of ss))
 
 step : (s : Sentence) (ss : List Sentence) (n : ℕ) → n + sum_by draft_signs (items_before ss) ≤ sum_by weight (tokens_of ss) → n + sum_by draft_signs (drafts_of s ++ items_before ss) ≤ sum_by weight (tokens_of (s ∷ ss))
 step s ss n h = omega (arith, h, sum_by-append draft_signs (drafts_of s) (items_before ss), drafts-signs s, one-more s ss)
 
-text-signs : (ss : List Sentence) → sum_by home_signs (homes_of ss) + sum_by draft_signs (items_before ss) ≤ sum_by weight (tokens_of ss)
+pub text-signs : (ss : List Sentence) → sum_by home_signs (homes_of ss) + sum_by draft_signs (items_before ss) ≤ sum_by weight (tokens_of ss)
 text-signs [] = omega arith
 text-signs (constant_is x n ∷ ss) = step (constant_is x n) ss (sum_by home_signs (homes_of ss)) (text-signs ss)
 text-signs (namespace_of x n ∷ ss) =

@@ -1,22 +1,21 @@
 -- References and expressions that break no rule are read as sound ones.
-use Rattle.std.proofs.Common.{ℕ, zero, suc, ◌≡◌, ◌<◌, ◌≤◌, ◌+◌, List, [], ◌∷◌, ◌++◌, length, map, sum_by, All, Bool, true, false, Option, Some, None, refl, sym, ap, subst, ◌∙◌, arith}
-use Rattle.std.specs.Prelude.{unwrap_or, is_some, is_none, nat_eq, not, ◌&&◌}
+use Rattle.std.proofs.Common.{ℕ, zero, suc, ◌≡◌, ◌<◌, ◌+◌, List, [], ◌∷◌, ◌++◌, length, sum_by, All, Bool, true, false, Option, Some, None, refl, sym, ap, subst, ◌∙◌, arith}
+use Rattle.std.specs.Prelude.{unwrap_or, is_some, nat_eq, not}
 use Rattle.std.specs.List.{flat_map}
 use Rattle.std.proofs.lemmas.Grind.{flat_map-append}
 use Rattle.std.proofs.lemmas.List.{length-map}
-use Rattle.std.proofs.lemmas.List.Elements.{All-head, All-tail, All-nil, All-cons}
-use Rattle.std.proofs.lemmas.Bool.{eqb-true, not-true, false≢true, and_parts}
+use Rattle.std.proofs.lemmas.List.Elements.{All-head, All-tail}
+use Rattle.std.proofs.lemmas.Bool.{eqb-true, not-true, false≢true}
 use Rattle.gold.specs.Field.{p}
 use Rattle.pil_syntax.specs.declared.tree.Ident.{Ident}
-use Rattle.pil_syntax.specs.declared.tree.Number.{Number}
 use Rattle.pil_syntax.specs.declared.tree.Reference.{Reference}
 use Rattle.pil_syntax.specs.Tree.{Term, num, col, constant, public, opp, group, ◌⊕◌, ◌⊖◌, ◌⊗◌}
 use Rattle.pil_ast.specs.Term as ast
-use Rattle.pil_ast.specs.Sound.{IsInter, IsNameable, IsOf}
-use Rattle.pil_names.specs.Outline.{Named, Draft, column, defined, published, equal, inside, against, Home, Outline, home_at, draft_at, constant_at}
-use Rattle.pil_names.specs.Finding.{found, constant_entries, public_entries, public_names, polynomial_entries, home_named, item_named}
-use Rattle.pil_names.specs.Wrongs.{unless, each_name, references, unknown_index, unknown_in_item, space_place, unknown_in_home, unknown_reference, unknown_constant, unknown_public, unknown_in_term, length_of, stray, is_column, is_public_item, is_public_in, value_of_constant, constant_value}
-use Rattle.pil_meaning.specs.Meaning.{constant_columns, committed_columns, start_of_kind, number_or_zero, named_item, read_in, read_reference, read_term, read_draft, column_number}
+use Rattle.pil_ast.specs.Sound.{IsInter, IsOf}
+use Rattle.pil_names.specs.Outline.{Named, Draft, column, defined, published, equal, inside, against, Outline, home_at, draft_at, constant_at}
+use Rattle.pil_names.specs.Finding.{found, constant_entries, public_entries, public_names, home_named, item_named}
+use Rattle.pil_names.specs.Wrongs.{each_name, references, unknown_index, unknown_in_item, space_place, unknown_in_home, unknown_reference, unknown_in_term, length_of, stray, is_column, is_public_item, is_public_in, value_of_constant}
+use Rattle.pil_meaning.specs.Meaning.{constant_columns, committed_columns, named_item, read_in, read_reference, read_term, read_draft, column_number}
 use Rattle.pil_meaning.specs.Marks.{is_marked_in, double_at}
 use Rattle.pil_meaning.specs.Soundness.{IsInField}
 use Rattle.pil_meaning.proofs.Nothing.{left_nil, right_nil, unless_true}

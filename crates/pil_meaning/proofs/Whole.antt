@@ -1,16 +1,14 @@
 -- The meaning of a short file that breaks no rule is sound.
-use Rattle.std.proofs.Common.{ℕ, ◌≡◌, ◌<◌, ◌≤◌, ◌+◌, ◌^◌, List, [], ◌∷◌, length, map, slice_index_or, All, false, arith}
+use Rattle.std.proofs.Common.{ℕ, ◌≡◌, ◌<◌, List, [], length, All, false, arith}
 use Rattle.std.specs.List.{flat_map}
-use Rattle.pil_syntax.specs.Tree.{Sentence}
-use Rattle.pil_syntax.specs.Grammar.{limits, IsFile}
-use Rattle.pil_syntax.specs.Spelling.{tokens_of}
-use Rattle.pil_ast.specs.Term.{Namespace, space_at}
-use Rattle.pil_ast.specs.Sound.{IsSpace, IsSound}
+use Rattle.pil_syntax.specs.Grammar.{limits}
+use Rattle.pil_ast.specs.Term.{space_at}
+use Rattle.pil_ast.specs.Sound.{IsSpace}
 use Rattle.pil_names.specs.Outline.{Draft, Home, Outline, outline_of, home_at}
 use Rattle.pil_names.specs.Wrongs.{terms_of, bad_size, bad_row_of_draft, each_item, unknown_in_size, unknown_in_draft, mixed_in_draft, wrong_widths_of}
 use Rattle.pil_meaning.specs.Meaning.{meaning}
 use Rattle.pil_meaning.specs.Marks.{double_in_draft}
-use Rattle.pil_meaning.specs.Soundness.{IsInField, HasNumbers, IsShort, IsUnbroken, UnbrokenIsSound}
+use Rattle.pil_meaning.specs.Soundness.{IsInField, HasNumbers, IsUnbroken, UnbrokenIsSound}
 use Rattle.pil_meaning.proofs.Nothing.{left_nil, right_nil, all_nil, each_draft, home_all}
 use Rattle.pil_meaning.proofs.Places.{reading}
 use Rattle.pil_meaning.proofs.Signs.{meaning-signs}

@@ -1,6 +1,6 @@
 -- The places of marks on an intermediate whose expression has a mark when it is written out: the row after the
 -- next has no value (docs/PIL.md, "Refusals").
-use Rattle.std.specs.Prelude.{ℕ, ◌≡◌, ◌<◌, ◌^◌, List, [], ◌∷◌, length, flat_map, slice_index_or, All, not, Bool, false, Option, Some, None}
+use Rattle.std.specs.Prelude.{ℕ, ◌≡◌, ◌<◌, ◌^◌, List, [], length, flat_map, slice_index_or, All, not, Bool, false, Option, Some, None}
 use Rattle.pil_syntax.specs.declared.tree.Reference.{Reference}
 use Rattle.pil_syntax.specs.Tree.{Term}
 use Rattle.pil_ast.specs.Term as ast

@@ -1,16 +1,15 @@
 -- What a text means: its names are replaced by numbers (docs/PIL.md, "Names" and "Meaning"). It is a function of
 -- every text, also of one that is refused.
-use Rattle.std.specs.Prelude.{ℕ, ◌+◌, List, [], ◌∷◌, ◌++◌, map, flat_map, take, sum_by, Bool, true, false, Option, Some, None, is_some, unwrap_or, option_map}
-use Rattle.pil_syntax.specs.declared.tree.Ident.{Ident}
+use Rattle.std.specs.Prelude.{ℕ, ◌+◌, List, [], ◌∷◌, map, take, sum_by, Bool, Option, Some, None, is_some, unwrap_or, option_map}
 use Rattle.pil_syntax.specs.declared.tree.Number.{Number}
 use Rattle.pil_syntax.specs.declared.tree.Reference.{Reference}
 use Rattle.pil_syntax.specs.declared.tree.ColumnKind.{ColumnKind}
 use Rattle.pil_syntax.specs.declared.tree.ColumnKind.TheVariants.{Constant, Commit}
 use Rattle.pil_syntax.specs.Tree.{Term, num, col, constant, public, opp, group, ◌⊕◌, ◌⊖◌, ◌⊗◌, Filter, every, by_col, by_group, Tuple}
 use Rattle.pil_ast.specs.Term as ast
-use Rattle.pil_names.specs.Outline.{Named, Draft, column, defined, published, equal, inside, against, Home, Outline, home_at, draft_at}
+use Rattle.pil_names.specs.Outline.{Draft, column, defined, published, equal, inside, against, Home, Outline, home_at, draft_at}
 use Rattle.pil_names.specs.Finding.{found, public_entries, home_named, item_named}
-use Rattle.pil_names.specs.Wrongs.{each_from, terms_of_list, home_of_terms, rows_of, constant_value}
+use Rattle.pil_names.specs.Wrongs.{terms_of_list, home_of_terms, rows_of, constant_value}
 
 -- the columns that an item declares, of constant polynomials and of committed ones
 abbrev pub length_or_one : Option Number → ℕ

@@ -1,6 +1,5 @@
 -- What a text keeps that breaks no rule, and that its meaning is sound then.
 use Rattle.std.specs.Prelude.{ℕ, ◌<◌, ◌≤◌, ◌≡◌, ◌^◌, Bool, true, false, List, [], All, count_by}
-use Rattle.pil_token.specs.declared.token.Mark.{Mark}
 use Rattle.pil_token.specs.declared.token.Mark.TheVariants.{Semicolon, OpenBrace, Comma}
 use Rattle.pil_token.specs.declared.token.Token.{Token}
 use Rattle.pil_token.specs.declared.token.Token.TheVariants as tokens

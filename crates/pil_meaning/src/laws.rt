@@ -2,7 +2,7 @@
 ghost use Rattle.pil_meaning.specs.Soundness.{UnbrokenIsSound};
 ghost use Rattle.pil_meaning.specs.Fitting.{NamedFits};
 ghost use Rattle.pil_meaning.specs.Closed.{NamedIsClosed};
-ghost use Rattle.pil_meaning.specs.Given.{TokensHaveNumbers, TokensHaveSigns};
+ghost use Rattle.pil_meaning.specs.Given.{ShortIsCountable, TextHasSigns, TokensHaveNumbers, TokensHaveSigns};
 
 /// The law of soundness: a short file that breaks no rule of names, sizes, widths, cycles and marks
 /// has a sound meaning. The call computes nothing.
@@ -23,8 +23,11 @@ pub fn named_is_closed()
 {}
 
 /// The law of tokens: the numbers of a file that is read from tokens are below the order of the
-/// field, and it has as many `;`, `,` and `{` as they. The call computes nothing.
+/// field, and it has as many `;`, `,` and `{` as they; a text has at least as many as its tokens; and
+/// the names of a file can be counted that has at most 2^20 of them. The call computes nothing.
 pub fn tokens_give()
     ensures numbers { TokensHaveNumbers }
     ensures signs { TokensHaveSigns }
+    ensures text { TextHasSigns }
+    ensures countable { ShortIsCountable }
 {}

@@ -1,4 +1,4 @@
-use Rattle.std.proofs.Common.{◌≡◌, not, ap, ◌∙◌, sym}
+use Rattle.std.proofs.Common.{not, ap, ◌∙◌, sym}
 use Rattle.pil_names.specs.Least.{least}
 use Rattle.pil_names.specs.Wrongs.{unless}
 use Rattle.pil_names.specs.Shown.{outlined}

@@ -1,5 +1,4 @@
-use Rattle.std.proofs.Common.{◌≡◌, ◌<◌, ◌+◌, ◌^◌, sym, ap, ◌∙◌, arith}
-use Rattle.std.specs.Prelude.{is_some}
+use Rattle.std.proofs.Common.{◌+◌, ap, ◌∙◌, arith}
 use Rattle.pil_ast.specs.Term.{mid, col}
 use Rattle.pil_names.specs.Shown.{outlined}
 use Rattle.pil_meaning.specs.Meaning.{column_number, number_or_zero}

@@ -1,8 +1,8 @@
-use Rattle.std.proofs.Common.{ℕ, ◌≡◌, ◌<◌, ◌+◌, List, [], ◌∷◌, ◌++◌, Option, length, sum_by, map, take, arith, ◌∙◌, ap, sym}
+use Rattle.std.proofs.Common.{ℕ, ◌<◌, List, [], ◌∷◌, ◌++◌, Option, length, arith, ◌∙◌, ap, sym}
 use Rattle.pil_names.specs.Shown.{draft}
 use Rattle.pil_meaning.specs.Meaning.{constant_columns, committed_columns}
-use Rattle.pil_meaning.specs.Firsts.{first_of, first_at}
-use Rattle.pil_meaning.proofs.Columns.{sum_by-map, sum-more, sum-within, firsts-more}
+use Rattle.pil_meaning.specs.Firsts.{first_of}
+use Rattle.pil_meaning.proofs.Columns.{sum-more, sum-within, firsts-more}
 use Rattle.pil_meaning.proofs.firsts.firsts_of_home.Goals as goal
 
 pub overflow_add-constants : goal.overflow_add-constants

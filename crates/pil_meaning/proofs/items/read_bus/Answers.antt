@@ -1,4 +1,4 @@
-use Rattle.std.proofs.Common.{◌≡◌, List, map, All, sym, ap, ◌∙◌}
+use Rattle.std.proofs.Common.{List, map, sym, ap, ◌∙◌}
 use Rattle.pil_syntax.specs.Shown.{tuple}
 use Rattle.pil_ast.specs.Tree.{tuples}
 use Rattle.pil_ast.specs.Term.{Tuples, bus}

@@ -1,9 +1,9 @@
-use Rattle.std.proofs.Common.{ℕ, ◌≡◌, ◌<◌, ◌≤◌, ◌+◌, List, [], ◌∷◌, ◌++◌, length, get_or, map, sym, ap, subst, ◌∙◌, arith}
+use Rattle.std.proofs.Common.{◌≡◌, ◌<◌, ◌≤◌, List, length, get_or, map, sym, ap, subst, ◌∙◌, arith}
 use Rattle.std.proofs.lemmas.List.{length-map}
 use Rattle.std.proofs.lemmas.List.Elements.{All-get_or}
 use Rattle.pil_ast.specs.declared.tree.Space.{Space}
 use Rattle.pil_ast.specs.declared.tree.Item.{Item}
-use Rattle.pil_ast.specs.Term.{Namespace, Line}
+use Rattle.pil_ast.specs.Term.{Namespace}
 use Rattle.pil_ast.specs.Tree.{line, namespace}
 use Rattle.pil_meaning.specs.Marks.{AreMarks, IsWritable}
 use Rattle.pil_meaning.proofs.Mapped.{all-mapped}

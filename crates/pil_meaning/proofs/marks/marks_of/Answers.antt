@@ -1,5 +1,5 @@
-use Rattle.std.proofs.Common.{ℕ, ◌≡◌, ◌<◌, ◌+◌, List, [], ◌∷◌, ◌++◌, length, get_or, set, map, take, slice_index_or, Bool, false, not, sym, ap, subst, ◌∙◌, arith}
-use Rattle.std.proofs.lemmas.List.{get_or_default, take_all, length-map}
+use Rattle.std.proofs.Common.{ℕ, ◌≡◌, List, get_or, set, map, take, slice_index_or, false, not, sym, subst, arith}
+use Rattle.std.proofs.lemmas.List.{get_or_default, take_all}
 use Rattle.pil_ast.specs.declared.turns.Turn.{Turn}
 use Rattle.pil_ast.specs.Term.{Line}
 use Rattle.pil_ast.specs.Tree.{line}

@@ -1,5 +1,4 @@
 use Rattle.std.proofs.Common.{◌≡◌, map, All, sym, subst, ◌∙◌}
-use Rattle.pil_ast.specs.Tree.{line}
 use Rattle.pil_names.specs.Shown.{outlined, draft}
 use Rattle.pil_meaning.specs.Meaning.{read_draft}
 use Rattle.pil_meaning.specs.Fitting.{FitsLine}

@@ -1,10 +1,10 @@
-use Rattle.std.proofs.Common.{ℕ, ◌≡◌, ◌<◌, ◌+◌, ◌^◌, List, [], ◌∷◌, ◌++◌, length, get_or, map, take, sym, ap, subst, ◌∙◌, arith}
-use Rattle.std.proofs.lemmas.List.{length-map, take_more, map-append}
+use Rattle.std.proofs.Common.{◌≡◌, ◌<◌, ◌+◌, List, [], ◌∷◌, ◌++◌, length, get_or, map, sym, ap, subst, ◌∙◌, arith}
+use Rattle.std.proofs.lemmas.List.{length-map, map-append}
 use Rattle.pil_ast.specs.Term.{Namespace}
 use Rattle.pil_ast.specs.Tree.{namespace}
 use Rattle.pil_names.specs.declared.outline.Home as H
 use Rattle.pil_names.specs.Shown.{outlined, home}
-use Rattle.pil_meaning.specs.Meaning.{read_home, read_homes}
+use Rattle.pil_meaning.specs.Meaning.{read_home}
 use Rattle.pil_meaning.specs.Fitting.{FitsSpace}
 use Rattle.pil_meaning.specs.Firsts.{firsts_of_items}
 use Rattle.pil_meaning.proofs.Places.{length-homes}
