@@ -7,7 +7,7 @@ use Rattle.pil_meaning.specs.Marks.{double}
 use Rattle.pil_text.specs.declared.error.PilErr.{PilErr}
 use Rattle.pil_text.specs.declared.error.PilErrKind.{PilErrKind}
 use Rattle.pil_text.specs.declared.error.PilErrKind.TheVariants.{BadByte, NumberTooLarge, Unexpected, TooDeep, Repeated, UnknownName, BadRow, Mixed, WrongWidth, CyclicPol, DoubleMark, NoMemory}
-use Rattle.pil_text.specs.Refusal.{IsWrong, IsCyclic, IsClear, Breaks, turn}
+use Rattle.pil_text.specs.Refusal.{IsWrong, IsCyclic, IsClear, Breaks, UnlessMemory, turn}
 
 nowhere : (ns : List ℕ) (at : ℕ) → ns ≡ [] → Contains ns at → ⊥
 nowhere ns at e c = let none : Contains [] at = subst (λ xs. Contains xs at) e c in absurd (omega (arith, none.1))
@@ -67,3 +67,21 @@ told is_least o k ns found e c few same at_least kind at =
 
 pub kept : IsLeast → (ns : List ℕ) (found : Option ℕ) → found ≡ least ns → found ≡ None → ns ≡ []
 kept is_least ns found at_least none = is_least.none ns (sym at_least ∙ none)
+
+-- a broken rule is told, and no want of memory
+pub unless : (o : Outline) (e : PilErr) → Breaks o e → UnlessMemory e.kind (Breaks o e)
+unless o e b = by e.kind b
+  where
+    by : (k : PilErrKind) → Breaks o e → UnlessMemory k (Breaks o e)
+    by BadByte b = b
+    by NumberTooLarge b = b
+    by Unexpected b = b
+    by TooDeep b = b
+    by Repeated b = b
+    by UnknownName b = b
+    by BadRow b = b
+    by Mixed b = b
+    by WrongWidth b = b
+    by CyclicPol b = b
+    by DoubleMark b = b
+    by NoMemory b = tt

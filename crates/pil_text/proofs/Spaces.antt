@@ -7,18 +7,19 @@ use Rattle.pil_ast.specs.declared.tree.Space.{Space}
 use Rattle.pil_ast.specs.declared.tree.Item.{Item}
 use Rattle.pil_ast.specs.Tree.{namespace, line}
 use Rattle.pil_ast.specs.Term.{Line, Namespace, space_at, inter_at}
-use Rattle.pil_ast.specs.Sound.{Names}
+use Rattle.pil_ast.specs.Sound.{Names, IsAcyclic}
 use Rattle.pil_ast.specs.Order.{NamesInside}
 use Rattle.pil_cycles.specs.Cycles.{IsOnCycle, DependsOn, on_named, on_deeper, TellCycles}
 use Rattle.pil_names.specs.declared.outline.Home as H
 use Rattle.pil_names.specs.declared.outline.Draft as D
-use Rattle.pil_names.specs.Outline.{Outline, Home, home_at}
+use Rattle.pil_names.specs.Outline.{Outline, Home, home_at, draft_at}
 use Rattle.pil_names.specs.Least.{lesser}
 use Rattle.pil_names.specs.Shown.{draft, home}
 use Rattle.pil_meaning.specs.Meaning.{meaning, read_homes, read_draft}
 use Rattle.pil_meaning.specs.Closed.{IsClosed}
+use Rattle.pil_meaning.specs.Marks.{AreWritable, IsWritable}
 use Rattle.pil_meaning.proofs.Places.{length-homes, space_at-homes}
-use Rattle.pil_text.specs.Refusal.{IsCyclic, IsCyclicIn}
+use Rattle.pil_text.specs.Refusal.{IsCyclic, IsCyclicIn, place_of}
 use Rattle.pil_text.specs.Cyclic.{IsLeastOf, IsFlagged, IsCyclicBelow}
 use Rattle.pil_text.proofs.Cyclic.{home_told, home_more, least_same}
 
@@ -36,6 +37,11 @@ all_at : (P : Namespace → Type 0) (ns : List Namespace) (s : ℕ) → All P ns
 all_at P [] s h l = absurd (omega (arith, l))
 all_at P (n ∷ ns) zero h l = h 0 n l
 all_at P (n ∷ ns) (suc s) h l = all_at P ns s (λ k d m. h (suc k) d (omega (arith, m))) (omega (arith, l))
+
+no_items_past : (ns : List Namespace) (s : ℕ) → length ns ≤ s → (space_at ns s).items ≡ []
+no_items_past [] s l = refl
+no_items_past (n ∷ ns) zero l = absurd (omega (arith, l))
+no_items_past (n ∷ ns) (suc s) l = no_items_past ns s (omega (arith, l))
 
 module _ (o : Outline) (hs : List H.Home) (spaces : List Space) (homes : o.homes ≡ map home hs) (meant : map namespace spaces ≡ meaning o) where
   pub as_many : length spaces ≡ length hs
@@ -67,11 +73,6 @@ module _ (o : Outline) (hs : List H.Home) (spaces : List Space) (homes : o.homes
       let told : IsLeastOf (IsCyclicIn o s) here = home_told o s (length h.items) flags here (subst (λ ls. TellCycles ls flags) (sym (items_here s x l at_space)) tells) (sym (same_count s x h l at_space at_home) ∙ sym (length-map x.items line) ∙ sym tells.long) (subst (λ ds. IsLeastOf (IsFlagged ds flags (length h.items)) here) (sym (drafts_here s h l at_home)) flagged) in
       subst (IsLeastOf (IsCyclicBelow o (s + 1))) (sym e) (home_more o s found here p told)
 
-  no_items : (ns : List Namespace) (s : ℕ) → length ns ≤ s → (space_at ns s).items ≡ []
-  no_items [] s l = refl
-  no_items (n ∷ ns) zero l = absurd (omega (arith, l))
-  no_items (n ∷ ns) (suc s) l = no_items ns s (omega (arith, l))
-
   names_nothing : (k b : ℕ) → DependsOn [] k b → ⊥
   names_nothing k b (on_named i j n) = n
   names_nothing k b (on_deeper i j m n d) = n
@@ -81,7 +82,39 @@ module _ (o : Outline) (hs : List H.Home) (spaces : List Space) (homes : o.homes
     where
       by : (s < length hs) ⊎ (length hs ≤ s) → s < length hs
       by (inl l) = l
-      by (inr l) = absurd (names_nothing c.item c.item (subst (λ ls. DependsOn ls c.item c.item) (no_items (meaning o) s (omega (arith, l, length-homes o 0 o.homes, many_homes))) c.cycle))
+      by (inr l) = absurd (names_nothing c.item c.item (subst (λ ls. DependsOn ls c.item c.item) (no_items_past (meaning o) s (omega (arith, l, length-homes o 0 o.homes, many_homes))) c.cycle))
 
   pub all_found : (n : ℕ) (found : Option ℕ) → length hs ≤ n → IsLeastOf (IsCyclicBelow o n) found → IsLeastOf (IsCyclic o) found
   all_found n found l p = least_same (IsCyclicBelow o n) (IsCyclic o) found (λ at f. (f.space, f.inside)) (λ at c. record { space = c.0; below = let k = inside_only c.0 at c.1 in omega (arith, l, k); inside = c.1 }) p
+
+-- no intermediate depends on itself, where the search found no place
+pub none_cyclic : (o : Outline) (found : Option ℕ) → found ≡ None → IsLeastOf (IsCyclic o) found → (at : ℕ) → IsCyclic o at → ⊥
+none_cyclic o found none p = subst (IsLeastOf (IsCyclic o)) none p
+
+pub cyclic_at : (o : Outline) (found : Option ℕ) (m : ℕ) → found ≡ Some m → IsLeastOf (IsCyclic o) found → IsCyclic o m
+cyclic_at o found m is p = (subst (IsLeastOf (IsCyclic o)) is p).0
+
+pub cyclic_least : (o : Outline) (found : Option ℕ) (m : ℕ) → found ≡ Some m → IsLeastOf (IsCyclic o) found → (at : ℕ) → IsCyclic o at → m ≤ at
+cyclic_least o found m is p = (subst (IsLeastOf (IsCyclic o)) is p).1
+
+pub no_cycle : (o : Outline) → ((at : ℕ) → IsCyclic o at → ⊥) → (s k : ℕ) → IsOnCycle (space_at (meaning o) s).items k → ⊥
+no_cycle o none s k c = none (place_of (draft_at (home_at o.homes s).items k)) (s, record { item = k; cycle = c; place = refl })
+
+space_get : (ns : List Namespace) (s : ℕ) (d : Namespace) → s < length ns → space_at ns s ≡ get_or ns s d
+space_get [] s d l = absurd (omega (arith, l))
+space_get (n ∷ ns) zero d l = refl
+space_get (n ∷ ns) (suc s) d l = space_get ns s d (omega (arith, l))
+
+pub writable : (o : Outline) → All (λ n. IsClosed n.items) (meaning o) → ((items : List Line) → NamesInside items → ((k : ℕ) → ¬ IsOnCycle items k) → IsAcyclic items) → ((at : ℕ) → IsCyclic o at → ⊥) → AreWritable (meaning o)
+writable o closed ranked none s d l =
+    let here : IsClosed (get_or (meaning o) s d).items = closed s d l in
+    let cycles : (k : ℕ) → ¬ IsOnCycle (get_or (meaning o) s d).items k = subst (λ n. (k : ℕ) → ¬ IsOnCycle n.items k) (space_get (meaning o) s d l) (no_cycle o none s) in
+    record { few = here.few; inside = here.inside; acyclic = ranked (get_or (meaning o) s d).items here.inside cycles }
+
+-- and each namespace is ranked, also one that isn't there
+pub all_ranked : (o : Outline) → AreWritable (meaning o) → (s : ℕ) → IsAcyclic (space_at (meaning o) s).items
+all_ranked o all s = by (cases_lt s (length (meaning o)))
+  where
+    by : (s < length (meaning o)) ⊎ (length (meaning o) ≤ s) → IsAcyclic (space_at (meaning o) s).items
+    by (inl l) = (all_at (λ n. IsWritable n.items) (meaning o) s all l).acyclic
+    by (inr l) = subst IsAcyclic (sym (no_items_past (meaning o) s l)) ((λ k. 0), record { bounded = λ k. omega arith; falling = λ k. tt })

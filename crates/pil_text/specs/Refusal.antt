@@ -1,12 +1,15 @@
 -- What a text means by its outline, or by which rule it is refused: the first in the table's order that it breaks
 -- somewhere, at the least place at which it breaks it (docs/PIL.md, "Refusals").
-use Rattle.std.specs.Prelude.{ℕ, ◌<◌, ◌≤◌, ◌≡◌, List, [], Contains, Result, Ok, Err}
+use Rattle.std.specs.Prelude.{ℕ, ◌<◌, ◌≤◌, ◌≡◌, List, [], Contains, All, Result, Ok, Err}
 use Rattle.pil_ast.specs.Term.{Namespace, space_at}
 use Rattle.pil_cycles.specs.Cycles.{IsOnCycle}
 use Rattle.pil_names.specs.Outline.{Outline, Draft, column, defined, published, equal, inside, against, home_at, draft_at}
 use Rattle.pil_names.specs.Wrongs.{repeated, unknown, bad_rows, mixed, wrong_widths}
 use Rattle.pil_meaning.specs.Meaning.{meaning}
+use Rattle.pil_names.specs.Directory.{IsCountable}
 use Rattle.pil_meaning.specs.Marks.{double}
+use Rattle.pil_meaning.specs.Closed.{IsClosed}
+use Rattle.pil_meaning.specs.Fitting.{Fits}
 use Rattle.pil_text.specs.declared.error.PilErr.{PilErr}
 use Rattle.pil_text.specs.declared.error.PilErrKind.{PilErrKind}
 use Rattle.pil_text.specs.declared.error.PilErrKind.TheVariants.{BadByte, NumberTooLarge, Unexpected, TooDeep, Repeated, UnknownName, BadRow, Mixed, WrongWidth, CyclicPol, DoubleMark, NoMemory}
@@ -75,7 +78,18 @@ pub record IsClear (n : ℕ) (o : Outline) : Type 0 where
   pub cyclic : 7 < n → (at : ℕ) → IsCyclic o at → ⊥
   pub double : 8 < n → double o ≡ []
 
--- a rule's list of places, or that there is none
+-- a fact about a refusal, which says nothing where memory ran out
+abbrev pub UnlessMemory : PilErrKind → Type 0 → Type 0
+UnlessMemory NoMemory P = Unit {0}
+UnlessMemory _ P = P
+
+-- the rules before the n-th are kept, or one is broken
 abbrev pub BreaksOrClears : Outline → ℕ → Result (Unit {0}) PilErr → Type 0
 BreaksOrClears o n (Ok u) = IsClear n o
-BreaksOrClears o n (Err e) = Breaks o e
+BreaksOrClears o n (Err e) = UnlessMemory e.kind (Breaks o e)
+
+-- what a short file keeps as far as its rules are kept
+pub record IsReadable (o : Outline) : Type 0 where
+  pub countable : IsCountable o
+  pub closed : unknown o ≡ [] → mixed o ≡ [] → All (λ n. IsClosed n.items) (meaning o)
+  pub fits : unknown o ≡ [] → bad_rows o ≡ [] → wrong_widths o ≡ [] → Fits (meaning o)

@@ -1,10 +1,11 @@
 -- What a text reads as, and how it fails: by its tokens, its grammar, or a rule of names.
-use Rattle.std.specs.Prelude.{ℕ, ◌≤◌, ◌^◌, ◌≡◌, ◌==◌, ◌||◌, Bool, List, length, count_by, ◌⊎◌, Ok, Err}
+use Rattle.std.specs.Prelude.{ℕ, ◌≤◌, ◌^◌, ◌≡◌, ◌==◌, ◌||◌, Bool, List, length, count_by, All, ◌⊎◌, Ok, Err}
 use Rattle.pil_token.specs.declared.token.Placed.{Placed}
 use Rattle.pil_token.specs.declared.token.LexErr.{LexErr}
 use Rattle.pil_token.specs.declared.token.LexKind.{LexKind}
 use Rattle.pil_token.specs.declared.token.LexKind.TheVariants as lex
 use Rattle.pil_token.specs.Tokens.{lexed}
+use Rattle.pil_token.specs.Spelled.{IsToken}
 use Rattle.pil_syntax.specs.declared.tree.SyntaxErr.{SyntaxErr}
 use Rattle.pil_syntax.specs.declared.tree.SyntaxErrKind.{SyntaxErrKind}
 use Rattle.pil_syntax.specs.declared.tree.SyntaxErrKind.TheVariants as syntax
@@ -16,7 +17,7 @@ use Rattle.pil_names.specs.Outline.{outline_of}
 use Rattle.pil_text.specs.declared.error.PilErr.{PilErr}
 use Rattle.pil_text.specs.declared.error.PilErrKind.{PilErrKind}
 use Rattle.pil_text.specs.declared.error.PilErrKind.TheVariants.{BadByte, NumberTooLarge, Unexpected, TooDeep, NoMemory}
-use Rattle.pil_text.specs.Refusal.{Means, Breaks}
+use Rattle.pil_text.specs.Refusal.{Means, Breaks, UnlessMemory}
 
 abbrev pub kind_of_lex : LexKind → PilErrKind
 kind_of_lex lex.BadByte = BadByte
@@ -74,10 +75,12 @@ signs text = count_by is_sign text
 abbrev pub IsShort : List ℕ → Type 0
 IsShort text = signs text ≤ 2 ^ 20
 
--- a fact about a refusal, which says nothing where memory ran out
-abbrev pub UnlessMemory : PilErrKind → Type 0 → Type 0
-UnlessMemory NoMemory P = Unit {0}
-UnlessMemory _ P = P
+-- the tokens of the text, and the statements that they spell
+pub record Spells (text : List ℕ) (statements : List Sentence) : Type 0 where
+  pub tokens : List Placed
+  pub lexed : lexed text ≡ Ok tokens
+  pub valid : All (λ t. IsToken t.token) tokens
+  pub parsed : grammar.Reads limits tokens statements
 
 -- A text reads as one list of namespaces, or fails in one way, and not both.
 pub record IsDecided (text : List ℕ) : Type 0 where

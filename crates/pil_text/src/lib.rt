@@ -3,6 +3,7 @@
 
 mod cycles;
 mod error;
+mod resolve;
 mod rules;
 
 pub use error::{PilErr, PilErrKind};
