@@ -1,3 +1,4 @@
 mod Order
 mod Cyclic
 mod Spaces
+mod Whole

@@ -85,3 +85,18 @@ unless o e b = by e.kind b
     by CyclicPol b = b
     by DoubleMark b = b
     by NoMemory b = tt
+
+-- no rule is broken
+pub right : (o : Outline) → IsClear 9 o → (k : PilErrKind) (at : ℕ) → IsWrong k o at → ⊥
+right o c NoMemory at w = w
+right o c BadByte at w = w
+right o c NumberTooLarge at w = w
+right o c Unexpected at w = w
+right o c TooDeep at w = w
+right o c Repeated at w = before 9 o (omega arith) c Repeated at (omega arith) w
+right o c UnknownName at w = before 9 o (omega arith) c UnknownName at (omega arith) w
+right o c BadRow at w = before 9 o (omega arith) c BadRow at (omega arith) w
+right o c Mixed at w = before 9 o (omega arith) c Mixed at (omega arith) w
+right o c WrongWidth at w = before 9 o (omega arith) c WrongWidth at (omega arith) w
+right o c CyclicPol at w = before 9 o (omega arith) c CyclicPol at (omega arith) w
+right o c DoubleMark at w = before 9 o (omega arith) c DoubleMark at (omega arith) w

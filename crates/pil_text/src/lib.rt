@@ -3,7 +3,9 @@
 
 mod cycles;
 mod error;
+mod reading;
 mod resolve;
 mod rules;
 
 pub use error::{PilErr, PilErrKind};
+pub use reading::read;

@@ -1,0 +1,85 @@
+//! Reading a text.
+ghost use Rattle.std.specs.Prelude.{◌≡◌, ℕ, List, IfOk, IfErr};
+ghost use Rattle.pil_syntax.specs.Shown.{sentences};
+ghost use Rattle.pil_ast.specs.Tree.{namespaces};
+ghost use Rattle.pil_ast.specs.Sound.{IsSound};
+ghost use Rattle.pil_text.specs.Refusal.{UnlessMemory};
+ghost use Rattle.pil_text.specs.Text.{Reads, Fails, IsShort, Spells, kind_of_lex, kind_of_syntax};
+
+use crate::error::{PilErr, PilErrKind};
+use crate::resolve::resolve;
+use pil_ast::Pil;
+use pil_cycles::without_cycle_are_ranked;
+use pil_meaning::{named_fits, named_is_closed, tokens_give, unbroken_is_sound};
+use pil_names::read_outline;
+use pil_syntax::{Syntax, SyntaxErr, SyntaxErrKind, read_syntax};
+use pil_token::{LexErr, LexKind, tokens};
+use std::alloc::Global;
+
+/// The refusal of a text that has no tokens.
+fn as_tokens(error: LexErr) -> PilErr
+    ensures kind { result.kind ≡ kind_of_lex error.kind }
+    ensures at { result.at ≡ error.at }
+{
+    let kind = match error.kind {
+        LexKind::BadByte => PilErrKind::BadByte,
+        LexKind::NumberTooLarge => PilErrKind::NumberTooLarge,
+        LexKind::NoMemory => PilErrKind::NoMemory,
+    };
+    PilErr { kind, at: error.at }
+}
+
+/// The refusal of tokens that are no file.
+fn as_file(error: SyntaxErr) -> PilErr
+    ensures kind { result.kind ≡ kind_of_syntax error.kind }
+    ensures at { result.at ≡ error.at }
+{
+    let kind = match error.kind {
+        SyntaxErrKind::Unexpected => PilErrKind::Unexpected,
+        SyntaxErrKind::TooDeep => PilErrKind::TooDeep,
+        SyntaxErrKind::NoMemory => PilErrKind::NoMemory,
+    };
+    PilErr { kind, at: error.at }
+}
+
+/// The statements that a text spells.
+fn statements(alloc: Global, text: &[u8]) -> Result<Syntax, PilErr>
+    ensures found { IfOk result (λ syntax. Spells text.now (sentences syntax)) }
+    ensures refused { IfErr result (λ e. UnlessMemory e.kind (Fails text.now e)) }
+{
+    let tokens = match tokens(alloc, text) {
+        Ok(tokens) => tokens,
+        Err(error) => return Err(as_tokens(error)),
+    };
+    match read_syntax(alloc, &tokens, text.len() as u64) {
+        Ok(syntax) => Ok(syntax),
+        Err(error) => Err(as_file(error)),
+    }
+}
+
+/// The tree that a text means.
+///
+/// # Errors
+///
+/// The first rule that the text breaks, in the order of [`PilErrKind`], with the least offset at which it
+/// does, or `NoMemory`.
+pub fn read(alloc: Global, text: &[u8]) -> Result<Pil, PilErr>
+    requires { IsShort text.now }
+    // The tree is what the text means.
+    ensures found { IfOk result (λ pil. Reads text.now (namespaces pil)) }
+    ensures sound { IfOk result (λ pil. IsSound (namespaces pil)) }
+    // The refusal is the text's.
+    ensures refused { IfErr result (λ e. UnlessMemory e.kind (Fails text.now e)) }
+{
+    tokens_give();
+    named_is_closed();
+    named_fits();
+    unbroken_is_sound();
+    without_cycle_are_ranked();
+    let syntax = statements(alloc, text)?;
+    let outline = read_outline(alloc, &syntax)?;
+    match resolve(alloc, &outline) {
+        Ok(pil) => Ok(pil),
+        Err(error) => Err(error),
+    }
+}
