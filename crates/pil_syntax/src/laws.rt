@@ -1,4 +1,8 @@
-//! What printing may rely on, as laws that are proved of every syntax.
+//! What is true of all tokens and of every syntax.
+ghost use Rattle.std.specs.Prelude.{ℕ, List};
+ghost use Rattle.pil_token.specs.declared.token.Placed.{Placed};
+ghost use Rattle.pil_syntax.specs.Grammar.{limits};
+ghost use Rattle.pil_syntax.specs.Refusal.{IsDecided};
 ghost use Rattle.pil_syntax.specs.Placeless.{IsPlaceless};
 ghost use Rattle.pil_syntax.specs.Printing.{IsDressing};
 
@@ -13,4 +17,10 @@ pub fn printed_parentheses()
 /// file that differs from it in places alone. The call computes nothing.
 pub fn moved_tokens()
     ensures placeless { IsPlaceless }
+{}
+
+/// The law of one answer: whatever the tokens are, they are a file in one way or refused in one way.
+/// The call computes nothing.
+pub fn files_are_decided()
+    ensures decided { (ts : List Placed) (end : ℕ) → IsDecided limits ts end }
 {}

@@ -1,9 +1,8 @@
 //! Files: statements, one after another.
 ghost use Rattle.std.specs.Prelude.{◌≡◌, ◌<◌, ◌-◌, ℕ, IfOk, IfErr, MatchResult, List, [], ◌∷◌, Bool, true, false, ⊤, drop, length};
-ghost use Rattle.pil_token.specs.declared.token.Placed.{Placed as PlacedOf};
 ghost use Rattle.pil_syntax.specs.declared.tree.SyntaxErr.{SyntaxErr as SyntaxErrOf};
 ghost use Rattle.pil_syntax.specs.Grammar.{limits};
-ghost use Rattle.pil_syntax.specs.Refusal.{Reads, Refuses, UnlessMemory, IsDecided, place};
+ghost use Rattle.pil_syntax.specs.Refusal.{Reads, Refuses, UnlessMemory, place};
 ghost use Rattle.pil_syntax.specs.Shown.{sentence, sentences};
 ghost use Rattle.pil_syntax.specs.State.{between};
 ghost use Rattle.pil_syntax.specs.Tree.{Sentence};
@@ -157,8 +156,6 @@ pub fn read_syntax(alloc: Global, tokens: &[Placed], end: u64) -> Result<Syntax,
     ensures only { (ss : List Sentence) → Reads limits tokens.now ss → MatchResult result (λ s. sentences s ≡ ss) (λ e. UnlessMemory e.kind ⊥) }
     // And so is every other refusal.
     ensures first { (e : SyntaxErrOf) → Refuses limits tokens.now end e → MatchResult result (λ s. ⊥) (λ f. UnlessMemory f.kind (f ≡ e)) }
-    // Whatever the tokens are, they are a file in one way or refused in one way.
-    ensures decided { (ts : List PlacedOf) (at : ℕ) → IsDecided limits ts at }
 {
     match file(alloc, tokens) {
         Ok(syntax) => Ok(syntax),

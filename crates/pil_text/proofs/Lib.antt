@@ -2,3 +2,5 @@ mod Order
 mod Cyclic
 mod Spaces
 mod Whole
+mod Decided
+mod Texts

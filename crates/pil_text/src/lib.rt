@@ -3,9 +3,11 @@
 
 mod cycles;
 mod error;
+mod laws;
 mod reading;
 mod resolve;
 mod rules;
 
 pub use error::{PilErr, PilErrKind};
+pub use laws::one_answer;
 pub use reading::read;

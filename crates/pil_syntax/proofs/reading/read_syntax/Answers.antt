@@ -1,7 +1,7 @@
 use Rattle.pil_syntax.specs.Grammar.{limits}
 use Rattle.pil_syntax.specs.Shown.{sentences}
 use Rattle.pil_syntax.proofs.SoundFiles.{file_of}
-use Rattle.pil_syntax.proofs.Unique.{one_file, not_both, decided}
+use Rattle.pil_syntax.proofs.Unique.{one_file, not_both}
 use Rattle.pil_syntax.proofs.Answered.{refused, no_file, first}
 use Rattle.pil_syntax.proofs.reading.read_syntax.Goals as goal
 
@@ -14,9 +14,6 @@ returns-in-Ok-clause-only c = λ ss r. one_file limits c.args.tokens.now (senten
 pub returns-in-Ok-clause-first : goal.returns-in-Ok-clause-first
 returns-in-Ok-clause-first c = λ e r. not_both limits c.args.tokens.now c.args.end (sentences c.in-Ok.syntax) e (file_of limits c.args.tokens.now (sentences c.in-Ok.syntax) c.in-Ok.ensures) r
 
-pub returns-in-Ok-clause-decided : goal.returns-in-Ok-clause-decided
-returns-in-Ok-clause-decided c = λ ts at. decided limits ts at
-
 pub returns-in-Err-clause-refused : goal.returns-in-Err-clause-refused
 returns-in-Err-clause-refused c = refused limits c.args.tokens.now c.args.end c.in-Err.error c.error_at.result c.in-Err.ensures c.error_at.ensures
 
@@ -25,6 +22,3 @@ returns-in-Err-clause-only c = λ ss r. no_file limits c.args.tokens.now c.args.
 
 pub returns-in-Err-clause-first : goal.returns-in-Err-clause-first
 returns-in-Err-clause-first c = λ e r. first limits c.args.tokens.now c.args.end c.in-Err.error c.error_at.result c.in-Err.ensures c.error_at.ensures e r
-
-pub returns-in-Err-clause-decided : goal.returns-in-Err-clause-decided
-returns-in-Err-clause-decided c = λ ts at. decided limits ts at
