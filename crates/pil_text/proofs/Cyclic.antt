@@ -1,15 +1,15 @@
 -- The least place of what depends on itself, piece by piece.
-use Rattle.std.proofs.Common.{ℕ, zero, suc, ◌≡◌, ◌<◌, ◌≤◌, ◌+◌, ◌⊎◌, inl, inr, List, [], ◌∷◌, length, map, Bool, true, false, Option, Some, None, MatchOption, min, slice_get, unwrap_or, option_map, if◌then◌else◌, All, arith, rules, refl, sym, ap, ◌∙◌, subst}
+use Rattle.std.proofs.Common.{ℕ, zero, suc, ◌≡◌, ◌<◌, ◌≤◌, ◌+◌, ◌⊎◌, inl, inr, List, [], ◌∷◌, length, map, Bool, true, false, Option, Some, None, min, slice_get, unwrap_or, option_map, if◌then◌else◌, arith, rules, refl, sym, ap, ◌∙◌, subst}
 use Rattle.std.proofs.lemmas.Bool.{cases_lt}
 use Rattle.std.proofs.Math.ListN.{get_or}
-use Rattle.pil_ast.specs.Term.{Line, Namespace, space_at}
-use Rattle.pil_cycles.specs.Cycles.{IsOnCycle, DependsOn, TellCycles}
-use Rattle.pil_names.specs.Outline.{Outline, Draft, Home, home_at, draft_at}
+use Rattle.pil_ast.specs.Term.{space_at}
+use Rattle.pil_cycles.specs.Cycles.{TellCycles}
+use Rattle.pil_names.specs.Outline.{Outline, Draft, home_at, draft_at}
 use Rattle.pil_names.specs.Least.{lesser}
 use Rattle.pil_names.specs.Shown.{draft}
 use Rattle.pil_names.specs.declared.outline.Draft as D
 use Rattle.pil_meaning.specs.Meaning.{meaning}
-use Rattle.pil_text.specs.Refusal.{IsCyclic, IsCyclicIn, place_of}
+use Rattle.pil_text.specs.Refusal.{IsCyclicIn, place_of}
 use Rattle.pil_text.specs.Cyclic.{IsLeastOf, IsFlagged, IsCyclicBelow}
 
 -- the least of two kinds of places
@@ -90,8 +90,8 @@ get_below (b ∷ bs) (suc k) e = let l = get_below bs k e in omega (arith, l)
 -- the flags tell the cycles of a namespace
 pub home_told : (o : Outline) (s n : ℕ) (flags : List Bool) (found : Option ℕ) → TellCycles (space_at (meaning o) s).items flags → n ≡ length flags → IsLeastOf (IsFlagged (home_at o.homes s).items flags n) found → IsLeastOf (IsCyclicIn o s) found
 home_told o s n flags found tells long p = least_same (IsFlagged (home_at o.homes s).items flags n) (IsCyclicIn o s) found
-  (λ at f. record { item = f.item; cycle = (tells.each f.item).0 f.set; place = f.place })
-  (λ at d. let set = (tells.each d.item).1 d.cycle in let l = get_below flags d.item set in record { item = d.item; below = omega (arith, l, long); set = set; place = d.place }) p
+    (λ at f. record { item = f.item; cycle = (tells.each f.item).0 f.set; place = f.place })
+    (λ at d. let set = (tells.each d.item).1 d.cycle in let l = get_below flags d.item set in record { item = d.item; below = omega (arith, l, long); set = set; place = d.place }) p
 
 -- one more namespace
 pub home_more : (o : Outline) (n : ℕ) (found here : Option ℕ) → IsLeastOf (IsCyclicBelow o n) found → IsLeastOf (IsCyclicIn o n) here → IsLeastOf (IsCyclicBelow o (n + 1)) (lesser found here)
@@ -100,6 +100,7 @@ home_more o n found here p q = least_same (λ at. IsCyclicBelow o n at ⊎ IsCyc
     join : (at : ℕ) → IsCyclicBelow o n at ⊎ IsCyclicIn o n at → IsCyclicBelow o (n + 1) at
     join at (inl f) = record { space = f.space; below = let l = f.below in omega (arith, l); inside = f.inside }
     join at (inr f) = record { space = n; below = omega arith; inside = f }
+
     split : (at : ℕ) → IsCyclicBelow o (n + 1) at → IsCyclicBelow o n at ⊎ IsCyclicIn o n at
     split at f = by (cases_lt f.space n)
       where

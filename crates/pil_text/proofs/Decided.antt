@@ -1,6 +1,5 @@
 -- Each text reads in one way or fails in one way, and not both.
-use Rattle.std.proofs.Common.{ℕ, zero, suc, ◌≡◌, ◌<◌, ◌≤◌, ◌+◌, ◌⊎◌, inl, inr, List, [], ◌∷◌, length, map, Bool, true, false, Option, Some, None, MatchOption, Contains, Result, Ok, Err, nat_eq, if◌then◌else◌, arith, rules, refl, sym, ap, ◌∙◌, subst}
-use Rattle.std.proofs.lemmas.List.{length-map}
+use Rattle.std.proofs.Common.{ℕ, zero, suc, ◌≡◌, ◌<◌, ◌≤◌, ◌⊎◌, inl, inr, List, [], ◌∷◌, length, Option, Some, None, Contains, nat_eq, if◌then◌else◌, arith, refl, sym, ap, ◌∙◌, subst}
 use Rattle.std.proofs.lemmas.Bool.{cases_lt}
 use Rattle.pil_ast.specs.Term.{Line, Namespace, space_at, inter_at}
 use Rattle.pil_ast.specs.Sound.{Names}
@@ -10,13 +9,12 @@ use Rattle.pil_names.specs.Least.{least, lesser, IsLeast}
 use Rattle.pil_names.specs.Wrongs.{repeated, unknown, bad_rows, mixed, wrong_widths}
 use Rattle.pil_meaning.specs.Meaning.{meaning}
 use Rattle.pil_meaning.specs.Marks.{double}
-use Rattle.pil_meaning.proofs.Places.{length-homes}
 use Rattle.pil_text.specs.declared.error.PilErr.{PilErr}
 use Rattle.pil_text.specs.declared.error.PilErrKind.{PilErrKind}
 use Rattle.pil_text.specs.declared.error.PilErrKind.TheVariants.{BadByte, NumberTooLarge, Unexpected, TooDeep, Repeated, UnknownName, BadRow, Mixed, WrongWidth, CyclicPol, DoubleMark, NoMemory}
 use Rattle.pil_text.specs.Refusal.{IsWrong, IsCyclic, IsCyclicIn, IsClear, Means, Breaks, turn, place_of}
 use Rattle.pil_text.specs.Cyclic.{IsLeastOf}
-use Rattle.pil_text.proofs.Order.{breaks, told, kept, right, start, past_repeated, past_unknown, past_rows, past_mixed, past_widths, past_cyclic, past_double}
+use Rattle.pil_text.proofs.Order.{breaks, told, kept, start, past_repeated, past_unknown, past_rows, past_mixed, past_widths, past_cyclic, past_double}
 use Rattle.pil_text.proofs.Cyclic.{least_join, least_same}
 
 -- P of a number below n
@@ -34,6 +32,7 @@ least_below P each (suc n) =
     join : (at : ℕ) → Below P n at ⊎ P n at → Below P (suc n) at
     join at (inl b) = (b.0, let l = b.1 in omega (arith, l), b.2)
     join at (inr p) = (n, omega arith, p)
+
     split : (at : ℕ) → Below P (suc n) at → Below P n at ⊎ P n at
     split at b = by (cases_lt b.0 n)
       where
@@ -53,6 +52,7 @@ names_none items k l b d = by (empty items k l) d
     empty [] n m = refl
     empty (x ∷ xs) zero m = absurd (omega (arith, m))
     empty (x ∷ xs) (suc n) m = empty xs n (omega (arith, m))
+
     by : inter_at items k ≡ inter_at [] k → DependsOn items k b → ⊥
     by e (on_named i j n) = subst (λ t. Names t b) e n
     by e (on_deeper i j m n r) = subst (λ t. Names t j) e n
@@ -82,6 +82,7 @@ module _ (each : (items : List Line) (k : ℕ) → IsOnCycle items k ⊎ ¬ IsOn
       empty [] n m = refl
       empty (x ∷ xs) zero m = absurd (omega (arith, m))
       empty (x ∷ xs) (suc n) m = empty xs n (omega (arith, m))
+
       inside : (s at : ℕ) → IsCyclicIn o s at → s < length (meaning o)
       inside s at c = by (cases_lt s (length (meaning o)))
         where

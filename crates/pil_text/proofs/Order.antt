@@ -1,5 +1,5 @@
 -- From the least places of the rules to the first rule that is broken.
-use Rattle.std.proofs.Common.{ℕ, ◌≡◌, ◌<◌, ◌≤◌, List, [], Option, Some, None, Contains, arith, sym, ap, subst, ◌∙◌, refl}
+use Rattle.std.proofs.Common.{ℕ, ◌≡◌, ◌<◌, ◌≤◌, List, [], Option, Some, None, Contains, arith, sym, subst, ◌∙◌}
 use Rattle.pil_names.specs.Outline.{Outline}
 use Rattle.pil_names.specs.Least.{least, IsLeast}
 use Rattle.pil_names.specs.Wrongs.{repeated, unknown, bad_rows, mixed, wrong_widths}

@@ -1,21 +1,19 @@
 -- The namespaces of a tree and of the outline that it is the meaning of.
-use Rattle.std.proofs.Common.{ℕ, zero, suc, ◌≡◌, ◌<◌, ◌≤◌, ◌+◌, ◌^◌, List, [], ◌∷◌, length, map, Bool, Option, Some, None, MatchOption, All, arith, ◌⊎◌, inl, inr, refl, sym, ap, ◌∙◌, subst}
+use Rattle.std.proofs.Common.{ℕ, zero, suc, ◌≡◌, ◌<◌, ◌≤◌, ◌+◌, List, [], ◌∷◌, length, map, Bool, Option, Some, None, All, arith, ◌⊎◌, inl, inr, refl, sym, ap, ◌∙◌, subst}
 use Rattle.std.proofs.lemmas.List.{length-map}
 use Rattle.std.proofs.lemmas.Bool.{cases_lt}
 use Rattle.std.proofs.Math.ListN.{get_or}
 use Rattle.pil_ast.specs.declared.tree.Space.{Space}
-use Rattle.pil_ast.specs.declared.tree.Item.{Item}
 use Rattle.pil_ast.specs.Tree.{namespace, line}
-use Rattle.pil_ast.specs.Term.{Line, Namespace, space_at, inter_at}
-use Rattle.pil_ast.specs.Sound.{Names, IsAcyclic}
+use Rattle.pil_ast.specs.Term.{Line, Namespace, space_at}
+use Rattle.pil_ast.specs.Sound.{IsAcyclic}
 use Rattle.pil_ast.specs.Order.{NamesInside}
 use Rattle.pil_cycles.specs.Cycles.{IsOnCycle, DependsOn, on_named, on_deeper, TellCycles}
 use Rattle.pil_names.specs.declared.outline.Home as H
-use Rattle.pil_names.specs.declared.outline.Draft as D
-use Rattle.pil_names.specs.Outline.{Outline, Home, home_at, draft_at}
+use Rattle.pil_names.specs.Outline.{Outline, home_at, draft_at}
 use Rattle.pil_names.specs.Least.{lesser}
 use Rattle.pil_names.specs.Shown.{draft, home}
-use Rattle.pil_meaning.specs.Meaning.{meaning, read_homes, read_draft}
+use Rattle.pil_meaning.specs.Meaning.{meaning, read_draft}
 use Rattle.pil_meaning.specs.Closed.{IsClosed}
 use Rattle.pil_meaning.specs.Marks.{AreWritable, IsWritable}
 use Rattle.pil_meaning.proofs.Places.{length-homes, space_at-homes}

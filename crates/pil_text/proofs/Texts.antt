@@ -14,7 +14,7 @@ use Rattle.pil_names.specs.Least.{IsLeast}
 use Rattle.pil_meaning.specs.Meaning.{meaning}
 use Rattle.pil_text.specs.declared.error.PilErr.{PilErr}
 use Rattle.pil_text.specs.Refusal.{IsClear, Means, Breaks}
-use Rattle.pil_text.specs.Text.{Reads, Fails, FailsAsTokens, FailsAsFile, FailsAsNames, IsDecided, kind_of_lex, kind_of_syntax}
+use Rattle.pil_text.specs.Text.{Reads, Fails, FailsAsFile, FailsAsNames, IsDecided, kind_of_lex, kind_of_syntax}
 use Rattle.pil_text.proofs.Order.{right}
 use Rattle.pil_text.proofs.Decided.{broken_or_clear, one_break, not_means}
 

@@ -1,5 +1,5 @@
 -- A text that breaks no rule reads as its meaning, which is sound.
-use Rattle.std.proofs.Common.{ℕ, ◌≡◌, ◌≤◌, ◌^◌, List, [], All, count_by, Ok, arith, sym, ap, ◌∙◌, subst}
+use Rattle.std.proofs.Common.{ℕ, ◌≡◌, List, arith, sym, ap, ◌∙◌, subst}
 use Rattle.pil_syntax.specs.Tree.{Sentence}
 use Rattle.pil_syntax.specs.Spelling.{tokens_of}
 use Rattle.pil_ast.specs.Term.{Line, Namespace}

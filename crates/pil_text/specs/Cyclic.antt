@@ -1,5 +1,5 @@
 -- The search for the least place of an intermediate that depends on itself.
-use Rattle.std.specs.Prelude.{ℕ, ◌<◌, ◌≤◌, ◌≡◌, Bool, true, List, Option, Some, None, slice_get, MatchOption}
+use Rattle.std.specs.Prelude.{ℕ, ◌<◌, ◌≤◌, ◌≡◌, Bool, true, List, Option, Some, slice_get, MatchOption}
 use Rattle.pil_names.specs.Outline.{Outline, Draft, draft_at}
 use Rattle.pil_text.specs.Refusal.{IsCyclicIn, place_of}
 

@@ -3,7 +3,7 @@
 use Rattle.std.specs.Prelude.{ℕ, ◌<◌, ◌≤◌, ◌≡◌, List, [], Contains, All, Result, Ok, Err}
 use Rattle.pil_ast.specs.Term.{Namespace, space_at}
 use Rattle.pil_cycles.specs.Cycles.{IsOnCycle}
-use Rattle.pil_names.specs.Outline.{Outline, Draft, column, defined, published, equal, inside, against, home_at, draft_at}
+use Rattle.pil_names.specs.Outline.{Outline, Draft, column, defined, published, home_at, draft_at}
 use Rattle.pil_names.specs.Wrongs.{repeated, unknown, bad_rows, mixed, wrong_widths}
 use Rattle.pil_meaning.specs.Meaning.{meaning}
 use Rattle.pil_names.specs.Directory.{IsCountable}

@@ -17,7 +17,7 @@ use Rattle.pil_names.specs.Outline.{outline_of}
 use Rattle.pil_text.specs.declared.error.PilErr.{PilErr}
 use Rattle.pil_text.specs.declared.error.PilErrKind.{PilErrKind}
 use Rattle.pil_text.specs.declared.error.PilErrKind.TheVariants.{BadByte, NumberTooLarge, Unexpected, TooDeep, NoMemory}
-use Rattle.pil_text.specs.Refusal.{Means, Breaks, UnlessMemory}
+use Rattle.pil_text.specs.Refusal.{Means, Breaks}
 
 abbrev pub kind_of_lex : LexKind → PilErrKind
 kind_of_lex lex.BadByte = BadByte

@@ -44,11 +44,7 @@ fn least_flagged(items: &[Draft], flags: &[bool]) -> Option<u64>
 }
 
 /// The least place of the name of an intermediate that depends on itself.
-pub fn least_cyclic(
-    alloc: Global,
-    outline: &Outline,
-    pil: &Pil,
-) -> Result<Option<u64>, AllocError>
+pub fn least_cyclic(alloc: Global, outline: &Outline, pil: &Pil) -> Result<Option<u64>, AllocError>
     requires meant { namespaces pil.now ≡ meaning (outlined outline.now) }
     requires closed { All (λ n. IsClosed n.items) (meaning (outlined outline.now)) }
     ensures { IfOk result (λ found. IsLeastOf (IsCyclic (outlined outline.now)) found) }

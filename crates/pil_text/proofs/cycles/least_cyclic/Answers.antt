@@ -1,9 +1,7 @@
-use Rattle.std.proofs.Common.{◌≡◌, ◌<◌, ◌^◌, map, length, All, sym, ap, ◌∙◌, refl, subst, arith}
+use Rattle.std.proofs.Common.{◌≡◌, map, length, sym, ap, ◌∙◌, subst, arith}
 use Rattle.pil_ast.specs.Tree.{line, namespace}
 use Rattle.pil_ast.specs.Order.{NamesInside}
 use Rattle.pil_names.specs.Shown.{draft, outlined, home}
-use Rattle.pil_meaning.specs.Meaning.{meaning}
-use Rattle.pil_meaning.specs.Closed.{IsClosed}
 use Rattle.std.proofs.lemmas.List.{length-map}
 use Rattle.pil_ast.specs.declared.tree.Space.{Space}
 use Rattle.pil_cycles.specs.Cycles.{TellCycles}

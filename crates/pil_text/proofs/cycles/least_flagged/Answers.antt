@@ -1,4 +1,4 @@
-use Rattle.std.proofs.Common.{◌≡◌, ◌≤◌, map, length, Bool, subst, sym, arith}
+use Rattle.std.proofs.Common.{◌≡◌, map, length, subst, arith}
 use Rattle.pil_names.specs.Shown.{draft}
 use Rattle.pil_text.specs.Cyclic.{IsLeastOf, IsFlagged}
 use Rattle.pil_text.proofs.Cyclic.{loop_more, any_default}

@@ -1,6 +1,5 @@
-use Rattle.std.proofs.Common.{◌≡◌, ◌≤◌, ℕ, List, [], Some, None, refl, sym, ap, ◌∙◌, subst, arith}
+use Rattle.std.proofs.Common.{◌≤◌, Some, refl, sym, ap, ◌∙◌, subst, arith}
 use Rattle.pil_names.specs.Shown.{outlined}
-use Rattle.pil_meaning.specs.Meaning.{meaning}
 use Rattle.pil_meaning.specs.Marks.{double, AreWritable}
 use Rattle.pil_text.specs.declared.error.PilErrKind.TheVariants.{CyclicPol, DoubleMark}
 use Rattle.pil_text.specs.Refusal.{IsCyclic}
