@@ -1,0 +1,124 @@
+//! The tables of a witness, found by air and instance.
+ghost use Rattle.std.specs.Prelude.{◌≡◌, ◌+◌, ◌<◌, ◌≤◌, ◌==◌, All, Some, drop, length, IfOk};
+ghost use Rattle.std.specs.List.{find, prefix_len};
+ghost use Rattle.gold.specs.Shapes.{HaveShape, counts_of};
+ghost use Rattle.wit_columns.specs.Values.{instances_of, width_of, rows_of, is_instance, values_of};
+ghost use Rattle.wit_columns.specs.Index.{starts_from};
+
+use gold::{Fe, Sequence, Shape, Table, Witness};
+use pil_ast::Columns;
+use std::alloc::{AllocError, Global};
+use std::marker::Model;
+
+/// The tables of a witness, with the places at which each air's begin. A value is found in constant
+/// time. Contracts see it as the shape and the list of the tables.
+#[derive(Drop)]
+pub struct TableColumns<'a> {
+    shape: &'a Shape,
+    tables: &'a [Table],
+    /// Where the tables of each air begin, and where those of the last air end.
+    starts: Sequence<usize>,
+}
+
+impl<'a> Model for TableColumns<'a> {
+    ghost use Rattle.wit_columns.specs.Index.{Shaped, IsIndexed};
+
+    ghost Value = { Shaped };
+
+    ghost view = { λ c. record { shape = c.shape.now; tables = c.tables.now } };
+
+    ghost invariant = { λ c. IsIndexed c.shape.now c.tables.now c.starts };
+}
+
+/// Where the tables of an air end, which begin at a place.
+fn end_of(tables: &[Table], start: usize, air: u32) -> usize
+    requires { start ≤ length tables.now }
+    ensures { result ≡ start + prefix_len (λ t. t.air == air) (drop start tables.now) }
+{
+    let mut end = start;
+    while end < tables.len() && tables[end].air == air {
+        end += 1;
+    }
+    end
+}
+
+/// Where the tables of each air begin, and where those of the last air end.
+fn starts(alloc: Global, tables: &[Table], shape: &Shape) -> Result<Sequence<usize>, AllocError>
+    requires { HaveShape shape.now tables.now }
+    ensures { IfOk result (λ starts. starts ≡ starts_from 0 (counts_of shape.now tables.now)) }
+{
+    let mut starts = Sequence::new(alloc);
+    let mut start = 0;
+    for air in 0..shape.airs.len() as u32 {
+        starts.push(start)?;
+        start = end_of(tables, start, air);
+    }
+    starts.push(start)?;
+    Ok(starts)
+}
+
+impl<'a> TableColumns<'a> {
+    /// The tables of a witness, which have the shape.
+    ///
+    /// # Errors
+    ///
+    /// Memory ran out.
+    pub fn new(
+        alloc: Global,
+        witness: &'a Witness,
+        shape: &'a Shape,
+    ) -> Result<TableColumns<'a>, AllocError>
+        requires { HaveShape shape.now witness.now.tables }
+        ensures same { IfOk result (λ columns. columns ≡ record { shape = shape.now; tables = witness.now.tables }) }
+        ensures values { IfOk result (λ columns. values_of columns.shape columns.tables ≡ values_of shape.now witness.now.tables) }
+    {
+        let tables = witness.tables.as_slice();
+        let starts = starts(alloc, tables, shape)?;
+        Ok(TableColumns {
+            shape,
+            tables,
+            starts,
+        })
+    }
+
+    /// The number of instances of an air.
+    #[inline]
+    fn count(&self, air: u32) -> u32
+        requires { air < length self.now.shape.airs }
+        ensures { result ≡ instances_of self.now.tables air }
+    {
+        let starts = self.starts.as_slice();
+        (starts[air as usize + 1] - starts[air as usize]) as u32
+    }
+
+    /// The table of an instance of an air.
+    #[inline]
+    fn table(&self, air: u32, instance: u32) -> &Table
+        requires air { air < length self.now.shape.airs }
+        requires instance { instance < instances_of self.now.tables air }
+        ensures found { find (is_instance air instance) self.now.tables ≡ Some result.now }
+        ensures columns { length result.now.columns ≡ width_of self.now.shape.airs air }
+        ensures rows { All (λ c. length c ≡ rows_of self.now.shape.airs air) result.now.columns }
+    {
+        let starts = self.starts.as_slice();
+        &self.tables[starts[air as usize] + instance as usize]
+    }
+}
+
+impl<'a> Columns for TableColumns<'a> {
+    ghost use Rattle.wit_columns.specs.Values.{values_of};
+
+    ghost values = { λ c. values_of c.shape c.tables };
+
+    #[inline]
+    fn instances(&self, space: u32) -> u32 {
+        self.count(space)
+    }
+
+    #[inline]
+    fn at(&self, space: u32, instance: u32, column: u32, row: u32) -> Fe {
+        self.table(space, instance)
+            .columns
+            .at(column as usize, row as usize)
+    }
+}
