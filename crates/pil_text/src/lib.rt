@@ -1,0 +1,6 @@
+//! Constraint texts: read, or refused by the first rule that they break, at its least place.
+#![tactic(auto)]
+
+mod error;
+
+pub use error::{PilErr, PilErrKind};
