@@ -1,8 +1,8 @@
 //! Constraint texts: read, or refused by the first rule that they break, at its least place.
 #![tactic(auto)]
 
-mod cycles;
 mod error;
-mod rules;
+mod reading;
 
 pub use error::{PilErr, PilErrKind};
+pub use reading::read;
