@@ -150,22 +150,28 @@ search-rows c s P test = by (search-below Each each (c.instances s))
   where
     Each : ℕ → Type 0
     Each i = (r : ℕ) → r < c.rows s → P i r
+
     each : (i : ℕ) → Each i ⊎ (¬ Each i)
     each i = elim (search-below (P i) (test i) (c.rows s)) as (λ x. Each i ⊎ (¬ Each i)) [
       | inl all ↦ inl all
       | inr f ↦ inr (λ all. f.2 (all f.0 f.1))
     ]
+
     at : (i : ℕ) → i < c.instances s → (¬ Each i) → ((j : ℕ) → j < i → Each j) → ((r : ℕ) → r < c.rows s → P i r) ⊎ FailsBelow (P i) (c.rows s) → (r : ℕ) × FailsFirst c s P i r
     at i l fails before (inl all) = absurd (fails all)
-    at i l fails before (inr f) = (f.0, record {
-      instance = l;
-      row = f.1;
-      fails = f.2;
-      first = λ j q jl ql b. elim b as (λ x. P j q) [
-        | inl m ↦ before j m q ql
-        | inr e ↦ subst (λ k. P k q) (sym e.0) (f.3 q e.1)
-      ];
-    })
+    at i l fails before (inr f) = (
+      f.0,
+      record {
+        instance = l;
+        row = f.1;
+        fails = f.2;
+        first = λ j q jl ql b. elim b as (λ x. P j q) [
+          | inl m ↦ before j m q ql
+          | inr e ↦ subst (λ k. P k q) (sym e.0) (f.3 q e.1)
+        ];
+      },
+    )
+
     by : ((i : ℕ) → i < c.instances s → Each i) ⊎ FailsBelow Each (c.instances s) → AtEachRow c s P ⊎ ((i : ℕ) × (r : ℕ) × FailsFirst c s P i r)
     by (inl all) = inl (λ i r l m. all i l r m)
     by (inr f) = let rest = at f.0 f.1 f.2 f.3 (search-below (P f.0) (test f.0) (c.rows s)) in inr (f.0, rest.0, rest.1)
@@ -211,20 +217,37 @@ search-among D test [] = inl (λ u s. absurd (s (times-nil u)))
 search-among D test (z ∷ zs) = by (search-among D test zs) (test z)
   where
     ordered : (f : FailsAmong D zs) → (¬ D z) → (o : Ordering) → slice_cmp nat_cmp z f.0 ≡ o → FailsAmong D (z ∷ zs)
-    ordered f fails Less e = (z, fails, λ u s b. first-or-rest u z zs (D u) s
-        (λ same. absurd (not-before-itself z _ refl (subst (λ v. ComesBefore v z) (sym same) b)))
-        (λ rest. f.2 u rest (nat_list_cmp_total.trans u z f.0 b e)))
-    ordered f fails Equal e = (f.0, f.1, λ u s b. first-or-rest u z zs (D u) s
-        (λ same. let less : slice_cmp nat_cmp z f.0 ≡ Less = subst (λ v. ComesBefore v f.0) (sym same) b in absurd (cc (less, e)))
-        (λ rest. f.2 u rest b))
-    ordered f fails Greater e = (f.0, f.1, λ u s b. first-or-rest u z zs (D u) s
-        (λ same. let less : slice_cmp nat_cmp z f.0 ≡ Less = subst (λ v. ComesBefore v f.0) (sym same) b in absurd (cc (less, e)))
-        (λ rest. f.2 u rest b))
+    ordered f fails Less e = (
+      z,
+      fails,
+      λ u s b. first-or-rest u z zs (D u) s
+          (λ same. absurd (not-before-itself z _ refl (subst (λ v. ComesBefore v z) (sym same) b)))
+          (λ rest. f.2 u rest (nat_list_cmp_total.trans u z f.0 b e)),
+    )
+    ordered f fails Equal e = (
+      f.0,
+      f.1,
+      λ u s b. first-or-rest u z zs (D u) s
+          (λ same. let less : slice_cmp nat_cmp z f.0 ≡ Less = subst (λ v. ComesBefore v f.0) (sym same) b in absurd (cc (less, e)))
+          (λ rest. f.2 u rest b),
+    )
+    ordered f fails Greater e = (
+      f.0,
+      f.1,
+      λ u s b. first-or-rest u z zs (D u) s
+          (λ same. let less : slice_cmp nat_cmp z f.0 ≡ Less = subst (λ v. ComesBefore v f.0) (sym same) b in absurd (cc (less, e)))
+          (λ rest. f.2 u rest b),
+    )
+
     by : HoldsAmong D zs ⊎ FailsAmong D zs → D z ⊎ (¬ D z) → HoldsAmong D (z ∷ zs) ⊎ FailsAmong D (z ∷ zs)
     by (inl all) (inl here) = inl (λ u s. first-or-rest u z zs (D u) s (λ same. subst D same here) (all u))
-    by (inl all) (inr fails) = inr (z, fails, λ u s b. first-or-rest u z zs (D u) s
-        (λ same. absurd (not-before-itself z _ refl (subst (λ v. ComesBefore v z) (sym same) b)))
-        (all u))
+    by (inl all) (inr fails) = inr (
+      z,
+      fails,
+      λ u s b. first-or-rest u z zs (D u) s
+          (λ same. absurd (not-before-itself z _ refl (subst (λ v. ComesBefore v z) (sym same) b)))
+          (all u),
+    )
     by (inr f) (inl here) = inr (f.0, f.1, λ u s b. first-or-rest u z zs (D u) s (λ same. subst D same here) (λ rest. f.2 u rest b))
     by (inr f) (inr fails) = inr (ordered f fails _ refl)
 
@@ -237,11 +260,13 @@ search-tuples xs ys = by (search-among Alike (λ u. same-number (times u xs) (ti
   where
     Alike : List ℕ → Type 0
     Alike u = times u xs ≡ times u ys
+
     anywhere : (u : List ℕ) → (times u (xs ++ ys) ≢ 0 → Alike u) → Alike u
     anywhere u h = elim (same-number (times u (xs ++ ys)) 0) as (λ x. Alike u) [
       | inl e ↦ nowhere-alike xs ys u e
       | inr d ↦ h d
     ]
+
     by : HoldsAmong Alike (xs ++ ys) ⊎ FailsAmong Alike (xs ++ ys) → AsOften xs ys ⊎ ((t : List ℕ) × (m : ℕ) × (n : ℕ) × DiffersFirst xs ys t m n)
     by (inl all) = inl (λ u. anywhere u (all u))
     by (inr f) = inr (f.0, times f.0 xs, times f.0 ys, record { left = refl; right = refl; differ = f.1; first = λ u b. anywhere u (λ s. f.2 u s b) })
@@ -276,23 +301,28 @@ search-lines ns c = by (search-below Line-holds test (length (lines ns)))
   where
     Line-holds : ℕ → Type 0
     Line-holds k = Holds ns c (item_at (lines ns) k)
+
     test : (k : ℕ) → Line-holds k ⊎ (¬ Line-holds k)
     test k = elim (search-line ns c (item_at (lines ns) k) (k + 1)) as (λ x. Line-holds k ⊎ (¬ Line-holds k)) [
       | inl holds ↦ inl holds
       | inr f ↦ inr (break-fails ns c (item_at (lines ns) k) (k + 1) f.0 f.1)
     ]
+
     broken : (f : FailsBelow Line-holds (length (lines ns))) → Line-holds f.0 ⊎ Breaks ns c (item_at (lines ns) f.0) (f.0 + 1) → (b : Broken) × IsFirstBroken ns c b
     broken f (inl holds) = absurd (f.2 holds)
     broken f (inr x) =
         let inside = f.1 in
         let at = x.2 in
-        let place : line_of x.0 - 1 ≡ f.0 = omega arith in
-        (x.0, record {
-          some = omega arith;
-          inside = omega arith;
-          breaks = subst (λ k. IsBreakOf ns c (item_at (lines ns) k) (line_of x.0) x.0) (sym place) (subst (λ k. IsBreakOf ns c (item_at (lines ns) f.0) k x.0) (sym at) x.1);
-          before = λ k some below. f.3 (k - 1) (omega arith);
-        })
+        let place : line_of x.0 - 1 ≡ f.0 = omega arith in (
+          x.0,
+          record {
+            some = omega arith;
+            inside = omega arith;
+            breaks = subst (λ k. IsBreakOf ns c (item_at (lines ns) k) (line_of x.0) x.0) (sym place) (subst (λ k. IsBreakOf ns c (item_at (lines ns) f.0) k x.0) (sym at) x.1);
+            before = λ k some below. f.3 (k - 1) (omega arith);
+          },
+        )
+
     by : ((k : ℕ) → k < length (lines ns) → Line-holds k) ⊎ FailsBelow Line-holds (length (lines ns)) → AllHold ns c ⊎ ((b : Broken) × IsFirstBroken ns c b)
     by (inl all) = inl (all-hold ns c all)
     by (inr f) = inr (broken f (search-line ns c (item_at (lines ns) f.0) (f.0 + 1)))
