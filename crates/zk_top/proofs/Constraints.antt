@@ -1,15 +1,20 @@
 -- The stages of `pil`, read against its outcome.
-use Rattle.std.proofs.Common.{◌≡◌, ◌≢◌, ◌⊎◌, inl, inr, ℕ, ◌≤◌, ◌^◌, List, [], ◌∷◌, ◌++◌, length, Option, Some, Ok, Err, refl, sym, ap, ◌∙◌, subst, arith}
+use Rattle.std.proofs.Common.{◌≡◌, ◌≢◌, ◌⊎◌, inl, inr, ℕ, ◌≤◌, ◌^◌, Bool, false, List, [], ◌∷◌, ◌++◌, length, map, Option, Some, Ok, Err, refl, sym, ap, ◌∙◌, subst, arith}
 use Rattle.host_io.specs.World.{World, Asked, Opened}
 use Rattle.gold.specs.declared.instances.Table.{Table}
+use Rattle.gold.specs.declared.shapes.AirShape.{AirShape}
 use Rattle.gold.specs.declared.shapes.Shape.{Shape}
+use Rattle.tab_file.specs.declared.fault.TabErr.{TabErr}
 use Rattle.tab_file.specs.declared.fault.TabKind.{TabKind}
 use Rattle.tab_file.specs.Items.{failure}
 use Rattle.tab_file.specs.Reading.{TabReads, TabFails}
 use Rattle.pil_ast.specs.Term.{Namespace}
 use Rattle.pil_ast.specs.Columns.{Columns}
-use Rattle.pil_text.specs.Text.{Reads, Fails, IsDecided}
+use Rattle.pil_ast.specs.Shape.{air_shape}
+use Rattle.pil_text.specs.Text.{Reads, Fails, UnlessMemory, IsDecided}
 use Rattle.pil_text.specs.declared.error.PilErr.{PilErr}
+use Rattle.pil_text.specs.declared.error.PilErrKind.{PilErrKind}
+use Rattle.pil_text.specs.declared.error.PilErrKind.TheVariants as kinds
 use Rattle.wit_columns.specs.Values.{values_of}
 use Rattle.zk_words.specs.declared.status.Which.TheVariants as files
 use Rattle.zk_words.specs.declared.status.Status.{Status}
@@ -25,12 +30,33 @@ only_text text ns decided reads = (λ other is. decided.one_reading other ns is 
 pub only_fault : (text : List ℕ) (e : PilErr) → IsDecided text → Fails text e → IsOnlyFault text e
 only_fault text e decided fails = (λ ns reads. decided.not_both ns e reads fails, λ other is. decided.one_refusal other e is fails)
 
+-- what a refusal says where memory didn't run out
+pub unless_memory : (k : PilErrKind) (P : Type 0) → k ≢ kinds.NoMemory → UnlessMemory k P → P
+unless_memory kinds.NoMemory P other told = absurd (other refl)
+unless_memory kinds.BadByte P other told = told
+unless_memory kinds.NumberTooLarge P other told = told
+unless_memory kinds.Unexpected P other told = told
+unless_memory kinds.TooDeep P other told = told
+unless_memory kinds.Repeated P other told = told
+unless_memory kinds.UnknownName P other told = told
+unless_memory kinds.BadRow P other told = told
+unless_memory kinds.Mixed P other told = told
+unless_memory kinds.WrongWidth P other told = told
+unless_memory kinds.CyclicPol P other told = told
+unless_memory kinds.DoubleMark P other told = told
+
 -- a table file that fails does so in one way
 same_failure : (k kind : TabKind) (n at : ℕ) → Some (failure k n) ≡ Some (failure kind at) → (k ≡ kind) × (n ≡ at)
-same_failure k kind n at e = (cc, cc)
+same_failure k kind n at e = let same : failure k n ≡ failure kind at = cc in (ap (λ (f : TabErr). f.kind) same, ap (λ (f : TabErr). f.at) same)
 
 pub only_failure : (file : List ℕ) (shape : Shape) (kind : TabKind) (at : ℕ) → ((tables : List Table) → TabReads file shape tables → ⊥) → TabFails file shape kind at → IsOnlyFailure file shape kind at
 only_failure file shape kind at never fails = (never, λ k n is. same_failure k kind n at (sym is ∙ fails))
+
+abbrev shaped : List AirShape → Bool → Shape
+shaped airs machine = record { airs = airs; machine = machine }
+
+pub same_shape : (shape : Shape) (ns : List Namespace) → shape.airs ≡ map air_shape ns → shape.machine ≡ false → shape ≡ shape_of ns
+same_shape shape ns airs machine = ap (λ (a : List AirShape). shaped a shape.machine) airs ∙ ap (λ (m : Bool). shaped (map air_shape ns) m) machine
 
 -- what the tables come to under a text, where the file reads as them and as no others
 pub tables_on : (names : List Asked) (ns : List Namespace) (file : List ℕ) (tables : List Table) (o : Outcome) → IsOnlyTables file (shape_of ns) tables → OfTables names ns file o → OfLines names ns (values_of (shape_of ns) tables) o
@@ -49,7 +75,10 @@ tables_names names ns file o (inr q) = ap (λ (p : Outcome). p.names) q.3
 -- a table file that was refused ends the command so
 refused_so : (names : List Asked) (ns : List Namespace) (file : List ℕ) (kind : TabKind) (at : ℕ) (o : Outcome) → IsOnlyFailure file (shape_of ns) kind at → OfTables names ns file o → o ≡ refused names (statuses.BadTables (record { kind = kind; at = at }))
 refused_so names ns file kind at o only (inl p) = absurd (only.0 p.0 p.1)
-refused_so names ns file kind at o only (inr q) = let same = only.1 q.0 q.1 q.2 in cc (q.3, same.0, same.1)
+refused_so names ns file kind at o only (inr q) = 
+    let same = only.1 q.0 q.1 q.2 in
+    subst (λ (k : TabKind). o ≡ refused names (statuses.BadTables (record { kind = k; at = at }))) same.0
+    (subst (λ (n : ℕ). o ≡ refused names (statuses.BadTables (record { kind = q.0; at = n }))) same.1 q.3)
 
 pub refusal_comes : (ns : List Namespace) (file : List ℕ) (status : Status) → IsTablesRefusal file (shape_of ns) status → Comes (λ names. OfTables names ns file) (Err status)
 refusal_comes ns file status (inl none) = subst (λ (s : Status). Comes (λ names. OfTables names ns file) (Err s)) (sym none) tt
