@@ -4,4 +4,5 @@ pub mod Sorted
 pub mod Places
 pub mod Sent
 pub mod InText
+pub mod Verdict
 pub mod Readable

@@ -3,12 +3,14 @@
 #![tactic(auto)]
 
 mod buses;
+mod laws;
 mod lines;
 mod lookups;
 mod order;
 mod rows;
 mod tuples;
 
+pub use laws::one_verdict;
 pub use lines::{check_bus, first_broken};
 
 #[cfg(test)]

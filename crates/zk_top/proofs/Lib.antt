@@ -1,2 +1,4 @@
 pub mod Stages
 pub mod Runs
+pub mod Constraints
+pub mod Publics

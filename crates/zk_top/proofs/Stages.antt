@@ -15,7 +15,7 @@ use Rattle.zk_top.specs.declared.files.FileErr.{FileErr}
 use Rattle.zk_top.specs.declared.files.FileErr.TheVariants as errors
 use Rattle.zk_top.specs.Outcome.{Outcome, Contents, reporting, refused, unanswered, of_run, with_input, WithFile, WithImage, IsRunOutcome}
 use Rattle.zk_top.specs.Ends.{Early, Ends}
-use Rattle.zk_top.specs.Parts.{Asks, AsksAtMost, IsNotRead, IsDecided, RunLeads, Stops, Leads, IsOnlyImage, IsOnlyRefusal, IsRefusal, stop_of}
+use Rattle.zk_top.specs.Parts.{Asks, AsksAtMost, IsNotRead, IsDecided, RunLeads, Comes, Stops, Leads, IsOnlyImage, IsOnlyRefusal, IsRefusal, stop_of}
 
 -- nothing was asked for
 pub asks_nothing : (w : World) → Asks [] w w
@@ -131,6 +131,9 @@ pub stops_early : (o : Outcome) (status : Status) (start now : World) → Stops 
 stops_early o statuses.HostFault start now s = early_front o start now s
 stops_early o statuses.NoMemory start now s = early_front o start now s
 stops_early o statuses.Done start now s = early_front o start now (front_asked o.names o start now (begins_exactly o.names o refl) s.0)
+stops_early o (statuses.Broken b) start now s = early_front o start now (front_asked o.names o start now (begins_exactly o.names o refl) s.0)
+stops_early o (statuses.BadTables e) start now s = early_front o start now (front_asked o.names o start now (begins_exactly o.names o refl) s.0)
+stops_early o (statuses.BadPil e) start now s = early_front o start now (front_asked o.names o start now (begins_exactly o.names o refl) s.0)
 stops_early o statuses.BadWords start now s = early_front o start now (front_asked o.names o start now (begins_exactly o.names o refl) s.0)
 stops_early o (statuses.BadElf e) start now s = early_front o start now (front_asked o.names o start now (begins_exactly o.names o refl) s.0)
 stops_early o (statuses.RunFault f) start now s = early_front o start now (front_asked o.names o start now (begins_exactly o.names o refl) s.0)
@@ -141,6 +144,9 @@ pub stops_decided : (o : Outcome) (status : Status) (start now : World) → IsDe
 stops_decided o statuses.HostFault start now d s = absurd d
 stops_decided o statuses.NoMemory start now d s = absurd d
 stops_decided o statuses.Done start now d s = s
+stops_decided o (statuses.Broken b) start now d s = s
+stops_decided o (statuses.BadTables e) start now d s = s
+stops_decided o (statuses.BadPil e) start now d s = s
 stops_decided o statuses.BadWords start now d s = s
 stops_decided o (statuses.BadElf e) start now d s = s
 stops_decided o (statuses.RunFault f) start now d s = s
@@ -161,8 +167,27 @@ run_leads names image steps o (Err statuses.NoMemory) old new asks e leads = fro
     run_names ns limit (Faulted fault) = refl
     run_names ns limit Limited = refl
 run_leads names image steps o (Err statuses.Done) old new asks e leads = refused_asks names statuses.Done o old new (e ∙ leads names) asks
+run_leads names image steps o (Err (statuses.Broken b)) old new asks e leads = refused_asks names (statuses.Broken b) o old new (e ∙ leads names) asks
+run_leads names image steps o (Err (statuses.BadTables f)) old new asks e leads = refused_asks names (statuses.BadTables f) o old new (e ∙ leads names) asks
+run_leads names image steps o (Err (statuses.BadPil f)) old new asks e leads = refused_asks names (statuses.BadPil f) o old new (e ∙ leads names) asks
 run_leads names image steps o (Err statuses.BadWords) old new asks e leads = refused_asks names statuses.BadWords o old new (e ∙ leads names) asks
 run_leads names image steps o (Err (statuses.BadElf f)) old new asks e leads = refused_asks names (statuses.BadElf f) o old new (e ∙ leads names) asks
 run_leads names image steps o (Err (statuses.RunFault f)) old new asks e leads = refused_asks names (statuses.RunFault f) o old new (e ∙ leads names) asks
 run_leads names image steps o (Err (statuses.StepLimit n)) old new asks e leads = refused_asks names (statuses.StepLimit n) o old new (e ∙ leads names) asks
 run_leads names image steps o (Err (statuses.TooLarge w)) old new asks e leads = refused_asks names (statuses.TooLarge w) o old new (e ∙ leads names) asks
+
+-- a stage whose outcomes have these names, read against its outcome
+pub stage_leads : (names : List Asked) (On : List Asked → Outcome → Type 0) (o : Outcome) (result : Result (Vec ℕ Global) Status) (old new : World) → Asks names old new → o.names ≡ names → On names o → Comes On result → Leads o result old new
+stage_leads names On o (Ok text) old new asks same on comes =
+    (subst (λ (ns : List Asked). Asks ns old new) (sym same) asks, comes names o on ∙ ap (λ (ns : List Asked). reporting ns statuses.Done text.items) (sym same))
+stage_leads names On o (Err statuses.HostFault) old new asks same on comes = absurd comes
+stage_leads names On o (Err statuses.NoMemory) old new asks same on comes = front_asked names o old new (begins_exactly names o same) asks
+stage_leads names On o (Err statuses.Done) old new asks same on comes = refused_asks names statuses.Done o old new (comes names o on) asks
+stage_leads names On o (Err (statuses.Broken b)) old new asks same on comes = refused_asks names (statuses.Broken b) o old new (comes names o on) asks
+stage_leads names On o (Err statuses.BadWords) old new asks same on comes = refused_asks names statuses.BadWords o old new (comes names o on) asks
+stage_leads names On o (Err (statuses.BadElf f)) old new asks same on comes = refused_asks names (statuses.BadElf f) o old new (comes names o on) asks
+stage_leads names On o (Err (statuses.RunFault f)) old new asks same on comes = refused_asks names (statuses.RunFault f) o old new (comes names o on) asks
+stage_leads names On o (Err (statuses.StepLimit n)) old new asks same on comes = refused_asks names (statuses.StepLimit n) o old new (comes names o on) asks
+stage_leads names On o (Err (statuses.BadTables e)) old new asks same on comes = refused_asks names (statuses.BadTables e) o old new (comes names o on) asks
+stage_leads names On o (Err (statuses.BadPil e)) old new asks same on comes = refused_asks names (statuses.BadPil e) o old new (comes names o on) asks
+stage_leads names On o (Err (statuses.TooLarge w)) old new asks same on comes = refused_asks names (statuses.TooLarge w) o old new (comes names o on) asks

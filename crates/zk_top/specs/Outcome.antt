@@ -1,5 +1,5 @@
 -- What a command comes to, by its words and the contents of its files (docs/COMMANDS.md).
-use Rattle.std.specs.Prelude.{◌≡◌, ◌⊎◌, ℕ, ◌-◌, ◌^◌, nat_le, MatchBool, List, [], ◌∷◌, ◌++◌, length, codes, decimal, Option, Some, None}
+use Rattle.std.specs.Prelude.{◌≡◌, ◌⊎◌, ℕ, ◌-◌, ◌^◌, nat_le, false, MatchBool, List, [], ◌∷◌, ◌++◌, length, map, flat_map, codes, decimal, Option, Some, None}
 use Rattle.hex.specs.Hex.{encode_lower}
 use Rattle.host_io.specs.World.{Asked, Opened}
 use Rattle.rv_model.specs.Image.{Img}
@@ -8,10 +8,24 @@ use Rattle.rv_model.specs.declared.answer.Public.{Public}
 use Rattle.elf_load.specs.Loads.{Loads}
 use Rattle.elf_load.specs.Refusal.{Refused}
 use Rattle.elf_load.specs.declared.error.ElfErr.{ElfErr}
+use Rattle.gold.specs.declared.instances.Table.{Table}
+use Rattle.gold.specs.declared.shapes.Shape.{Shape}
+use Rattle.tab_file.specs.declared.fault.TabKind.{TabKind}
+use Rattle.tab_file.specs.Reading.{TabReads, TabFails}
+use Rattle.pil_ast.specs.Term.{Line, published, Namespace}
+use Rattle.pil_ast.specs.Columns.{Columns}
+use Rattle.pil_ast.specs.Value.{value_of_place}
+use Rattle.pil_ast.specs.Shape.{air_shape}
+use Rattle.pil_ast.specs.Holds.{AllHold}
+use Rattle.pil_text.specs.Text.{Reads as TextReads, Fails}
+use Rattle.pil_text.specs.declared.error.PilErr.{PilErr}
+use Rattle.wit_columns.specs.Values.{values_of}
+use Rattle.row_check.specs.declared.broken.Broken.{Broken}
+use Rattle.row_check.specs.Breaks.{IsFirstBroken}
 use Rattle.zk_words.specs.Words.{Reads}
 use Rattle.zk_words.specs.Lines.{line_of}
 use Rattle.zk_words.specs.declared.command.Command.{Command}
-use Rattle.zk_words.specs.declared.command.Command.TheVariants.{Run}
+use Rattle.zk_words.specs.declared.command.Command.TheVariants.{Run, Pil}
 use Rattle.zk_words.specs.declared.status.Which.{Which}
 use Rattle.zk_words.specs.declared.status.Which.TheVariants as files
 use Rattle.zk_words.specs.declared.status.Status.{Status}
@@ -68,9 +82,48 @@ IsRunOutcome contents elf input steps o =
     (λ bytes o. o ≡ of_run (Opened elf ∷ Opened input ∷ []) steps (end_within (with_input image bytes) steps))))
     o
 
+-- the text reads as namespaces, and what they come to; or it is refused
+abbrev pub WithText : List Asked → List ℕ → (List Namespace → Outcome → Type 0) → Outcome → Type 0
+WithText names text On o = ((ns : List Namespace) × TextReads text ns × On ns o) ⊎ ((e : PilErr) × Fails text e × (o ≡ refused names (statuses.BadPil e)))
+
+-- the file reads as tables of the shape, and what they come to; or it is refused
+abbrev pub WithTables : List Asked → Shape → List ℕ → (List Table → Outcome → Type 0) → Outcome → Type 0
+WithTables names shape file On o = ((tables : List Table) × TabReads file shape tables × On tables o) ⊎ ((kind : TabKind) × (at : ℕ) × TabFails file shape kind at × (o ≡ refused names (statuses.BadTables (record { kind = kind; at = at }))))
+
+-- the shape of a text's tables: an air for each namespace
+abbrev pub shape_of : List Namespace → Shape
+shape_of ns = record { airs = map air_shape ns; machine = false }
+
+-- the line that reports a public, and none for any other item
+abbrev pub public_line : Columns → Line → List ℕ
+public_line c (published name s k r) = name ++ codes " " ++ decimal (value_of_place c (Some (record { space = s; column = k; row = r }))) ++ codes "\n"
+public_line c _ = []
+
+-- the report of a text whose lines all hold: the publics follow in order of the text
+abbrev pub pil_report : List Namespace → Columns → List ℕ
+pil_report ns c = codes "accepted\n" ++ flat_map (λ n. flat_map (public_line c) n.items) ns
+
+-- each line of the text holds, or one is the first broken one
+abbrev pub OfLines : List Asked → List Namespace → Columns → Outcome → Type 0
+OfLines names ns c o = (AllHold ns c × (o ≡ reporting names statuses.Done (pil_report ns c))) ⊎ ((b : Broken) × IsFirstBroken ns c b × (o ≡ refused names (statuses.Broken b)))
+
+-- what the bytes of the table file come to, under a text that reads as these namespaces
+abbrev pub OfTables : List Asked → List Namespace → List ℕ → Outcome → Type 0
+OfTables names ns file o = WithTables names (shape_of ns) file (λ tables. OfLines names ns (values_of (shape_of ns) tables)) o
+
+-- `pil PILFILE TABLES`
+unfoldable pub IsPilOutcome : Contents → List ℕ → List ℕ → Outcome → Type 0
+IsPilOutcome contents pil tables o =
+    WithFile (Opened pil ∷ []) (contents pil) (2 ^ 20) files.Pil
+    (λ text. WithText (Opened pil ∷ []) text
+    (λ ns. WithFile (Opened pil ∷ Opened tables ∷ []) (contents tables) (2 ^ 48) files.Tables
+    (OfTables (Opened pil ∷ Opened tables ∷ []) ns)))
+    o
+
 -- what a command comes to, whose file names are the words at their places
 abbrev pub IsOutcomeOf : Contents → List (List ℕ) → Command → Outcome → Type 0
 IsOutcomeOf contents words (Run steps) o = (elf : List ℕ) × (input : List ℕ) × (text : List ℕ) × (words ≡ codes "run" ∷ elf ∷ input ∷ text ∷ []) × IsRunOutcome contents elf input steps o
+IsOutcomeOf contents words Pil o = (pil : List ℕ) × (tables : List ℕ) × (words ≡ codes "pil" ∷ pil ∷ tables ∷ []) × IsPilOutcome contents pil tables o
 
 -- what the words come to: they read as a command, or as none
 abbrev pub IsOutcome : Contents → List (List ℕ) → Outcome → Type 0

@@ -7,6 +7,14 @@ use Rattle.rv_model.specs.Run.{end_within}
 use Rattle.elf_load.specs.Loads.{Loads}
 use Rattle.elf_load.specs.Refusal.{Refused}
 use Rattle.elf_load.specs.declared.error.ElfErr.{ElfErr}
+use Rattle.gold.specs.declared.instances.Table.{Table}
+use Rattle.gold.specs.declared.shapes.Shape.{Shape}
+use Rattle.tab_file.specs.declared.fault.TabKind.{TabKind}
+use Rattle.tab_file.specs.Reading.{TabReads, TabFails}
+use Rattle.pil_ast.specs.Term.{Line, published, Namespace}
+use Rattle.pil_ast.specs.Columns.{Columns}
+use Rattle.pil_text.specs.Text.{Reads, Fails}
+use Rattle.pil_text.specs.declared.error.PilErr.{PilErr}
 use Rattle.zk_words.specs.declared.status.Which.{Which}
 use Rattle.zk_words.specs.declared.status.Status.{Status}
 use Rattle.zk_words.specs.declared.status.Status.TheVariants as statuses
@@ -78,6 +86,42 @@ RunLeads image steps (Ok text) = (names : List Asked) → of_run names steps (en
 RunLeads image steps (Err statuses.NoMemory) = Unit {0}
 RunLeads image steps (Err statuses.HostFault) = ⊥
 RunLeads image steps (Err status) = (names : List Asked) → of_run names steps (end_within image steps) ≡ refused names status
+
+-- the text reads as these namespaces and in no other way
+abbrev pub IsOnlyText : List ℕ → List Namespace → Type 0
+IsOnlyText text ns = ((other : List Namespace) → Reads text other → other ≡ ns) × ((e : PilErr) → Fails text e → ⊥)
+
+-- the text has this refusal and nothing else
+abbrev pub IsOnlyFault : List ℕ → PilErr → Type 0
+IsOnlyFault text e = ((ns : List Namespace) → Reads text ns → ⊥) × ((other : PilErr) → Fails text other → other ≡ e)
+
+-- a text was refused, or memory ran out
+abbrev pub IsTextRefusal : List ℕ → Status → Type 0
+IsTextRefusal text status = (status ≡ statuses.NoMemory) ⊎ ((e : PilErr) × (status ≡ statuses.BadPil e) × IsOnlyFault text e)
+
+-- under the shape the file reads as these tables and in no other way
+abbrev pub IsOnlyTables : List ℕ → Shape → List Table → Type 0
+IsOnlyTables file shape tables = ((other : List Table) → TabReads file shape other → other ≡ tables) × ((kind : TabKind) (at : ℕ) → TabFails file shape kind at → ⊥)
+
+-- under the shape the file has this refusal and nothing else
+abbrev pub IsOnlyFailure : List ℕ → Shape → TabKind → ℕ → Type 0
+IsOnlyFailure file shape kind at = ((tables : List Table) → TabReads file shape tables → ⊥) × ((k : TabKind) (n : ℕ) → TabFails file shape k n → (k ≡ kind) × (n ≡ at))
+
+-- a table file was refused, or memory ran out
+abbrev pub IsTablesRefusal : List ℕ → Shape → Status → Type 0
+IsTablesRefusal file shape status = (status ≡ statuses.NoMemory) ⊎ ((kind : TabKind) × (at : ℕ) × (status ≡ statuses.BadTables (record { kind = kind; at = at })) × IsOnlyFailure file shape kind at)
+
+-- what a public names is in range
+abbrev pub IsPublicIn : Columns → Line → Type 0
+IsPublicIn c (published name s k r) = (s < c.spaces) × (k < c.width s) × (r < c.rows s)
+IsPublicIn c _ = Unit {0}
+
+-- a stage that can end in the ways On led to its report, or to how it ends without
+abbrev pub Comes : (List Asked → Outcome → Type 0) → Result (Vec ℕ Global) Status → Type 0
+Comes On (Ok text) = (names : List Asked) (o : Outcome) → On names o → o ≡ reporting names statuses.Done text.items
+Comes On (Err statuses.NoMemory) = Unit {0}
+Comes On (Err statuses.HostFault) = ⊥
+Comes On (Err status) = (names : List Asked) (o : Outcome) → On names o → o ≡ refused names status
 
 -- a command stopped before its report: what it asked for, against its outcome
 abbrev pub Stops : Outcome → Status → World → World → Type 0

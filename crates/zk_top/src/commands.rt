@@ -6,6 +6,7 @@ ghost use Rattle.zk_words.specs.declared.command.Command.{Command as Asked};
 ghost use Rattle.zk_top.specs.Outcome.{Outcome, IsOutcome};
 ghost use Rattle.zk_top.specs.Ends.{Ends};
 
+use crate::checking::pil_call;
 use crate::ending::refuse;
 use crate::running::run_call;
 use host_io::Host;
@@ -28,6 +29,10 @@ pub fn top<H: Host>(alloc: Global, words: &[String], host: &mut H) -> Status
     match read_words(words) {
         Some(Command::Run { steps }) => match words {
             [_, elf, input, _] => run_call(alloc, host, elf.as_str(), input.as_str(), steps),
+            _ => unreachable!(),
+        },
+        Some(Command::Pil) => match words {
+            [_, pil, tables] => pil_call(alloc, host, pil.as_str(), tables.as_str()),
             _ => unreachable!(),
         },
         None => refuse(alloc, host, Status::BadWords),

@@ -36,10 +36,13 @@ pub fn refuse<H: Host>(alloc: Global, host: &mut H, status: Status) -> Status
 {
     match status {
         Status::Done | Status::HostFault | Status::NoMemory => status,
-        Status::BadWords
+        Status::Broken(_)
+        | Status::BadWords
         | Status::BadElf(_)
         | Status::RunFault(_)
         | Status::StepLimit(_)
+        | Status::BadTables(_)
+        | Status::BadPil(_)
         | Status::TooLarge(_) => match status_line(alloc, &status) {
             Ok(line) => finish(host, status, &line),
             Err(_) => Status::NoMemory,

@@ -2,10 +2,11 @@
 ghost use Rattle.std.specs.Prelude.{◌≡◌, ◌≤◌, length, IfOk, IfErr, IsErrOf};
 ghost use Rattle.host_io.specs.World.{Opened};
 ghost use Rattle.host_io.specs.Calls.{HasRisen};
-ghost use Rattle.zk_top.specs.Parts.{IsRead, IsNotRead};
+ghost use Rattle.zk_top.specs.Parts.{IsRead, IsNotRead, stop_of};
 
 use host_io::{Host, HostErr, ReadErr, read_all};
 use std::alloc::Global;
+use zk_words::{Status, Which};
 
 /// Why a file isn't had.
 #[derive(Clone, Copy, Debug, PartialEq, Eq)]
@@ -39,5 +40,16 @@ pub fn file_of<H: Host>(
         Err(ReadErr::ReadFault) => Err(FileErr::HostFault),
         Err(ReadErr::TooLarge) => Err(FileErr::TooLarge),
         Err(ReadErr::NoMemory) => Err(FileErr::NoMemory),
+    }
+}
+
+/// How a command stops where the file isn't had.
+pub fn stopped(error: FileErr, which: Which) -> Status
+    ensures { result ≡ stop_of error which }
+{
+    match error {
+        FileErr::TooLarge => Status::TooLarge(which),
+        FileErr::HostFault => Status::HostFault,
+        FileErr::NoMemory => Status::NoMemory,
     }
 }

@@ -1,8 +1,16 @@
-//! The report of a run.
-ghost use Rattle.std.specs.Prelude.{◌≡◌, IfOk};
-ghost use Rattle.zk_top.specs.Outcome.{run_report};
+//! The reports of commands that did their work.
+ghost use Rattle.std.specs.Prelude.{◌≡◌, ◌++◌, Some, All, map, flat_map, IfOk, OnOk};
+ghost use Rattle.pil_ast.specs.Tree.{line, namespaces};
+ghost use Rattle.pil_ast.specs.Columns.{Fits};
+ghost use Rattle.pil_ast.specs.Sound.{IsSound};
+ghost use Rattle.pil_ast.specs.Reading.{IsPlaceIn};
+ghost use Rattle.pil_ast.specs.Value.{value_of_place};
+ghost use Rattle.zk_top.specs.Outcome.{run_report, public_line, pil_report};
+ghost use Rattle.zk_top.specs.Parts.{IsPublicIn};
 
+use gold::Fe;
 use itoa::Buffer;
+use pil_ast::{Columns, Item, Pil, Place};
 use rv_model::Ran;
 use std::alloc::{AllocError, Global};
 
@@ -20,4 +28,76 @@ pub fn run_text(alloc: Global, ran: &Ran) -> Result<Vec<u8>, AllocError>
     text.extend_from_slice(digits.as_bytes())?;
     text.push(b'\n')?;
     Ok(text)
+}
+
+/// The line `accepted`, and the publics by name and value in order of the text, a line each.
+pub fn pil_text<C: Columns>(alloc: Global, pil: &Pil, columns: &C) -> Result<Vec<u8>, AllocError>
+    requires sound { IsSound (namespaces pil.now) }
+    requires fits { Fits (namespaces pil.now) (C.values columns.now) }
+    ensures { IfOk result (λ text. text.items ≡ pil_report (namespaces pil.now) (C.values columns.now)) }
+{
+    let mut text = Vec::from_slice(alloc, b"accepted\n")?;
+    for space in pil.spaces.as_slice() {
+        push_publics(columns, space.items.as_slice(), &mut text)?;
+    }
+    Ok(text)
+}
+
+// Writes the lines of the publics among the items.
+fn push_publics<C: Columns>(
+    columns: &C,
+    items: &[Item],
+    text: &mut Vec<u8>,
+) -> Result<(), AllocError>
+    requires { All (IsPublicIn (C.values columns.now)) (map line items.now) }
+    ensures { OnOk result (text.new.items ≡ text.old.items ++ flat_map (public_line (C.values columns.now)) (map line items.now)) }
+{
+    for item in items {
+        push_public(columns, item, text)?;
+    }
+    Ok(())
+}
+
+// Writes the line of an item, where it is a public.
+fn push_public<C: Columns>(
+    columns: &C,
+    item: &Item,
+    text: &mut Vec<u8>,
+) -> Result<(), AllocError>
+    requires { IsPublicIn (C.values columns.now) (line item.now) }
+    ensures { OnOk result (text.new.items ≡ text.old.items ++ public_line (C.values columns.now) (line item.now)) }
+{
+    match item {
+        Item::Public {
+            name,
+            space,
+            column,
+            row,
+        } => {
+            let place = Place {
+                space: *space,
+                column: *column,
+                row: *row,
+            };
+            let value = value_at(columns, place);
+            text.extend_from_slice(name.as_slice())?;
+            text.push(b' ')?;
+            text.extend_from_slice(Buffer::new().format(value.value()).as_bytes())?;
+            text.push(b'\n')?;
+            Ok(())
+        }
+        _ => Ok(()),
+    }
+}
+
+// The value of a public, 0 where its namespace has no instance.
+fn value_at<C: Columns>(columns: &C, place: Place) -> Fe
+    requires { IsPlaceIn (C.values columns.now) place }
+    ensures { result ≡ value_of_place (C.values columns.now) (Some place) }
+{
+    if columns.instances(place.space) == 0 {
+        Fe::ZERO
+    } else {
+        columns.at(place.space, 0, place.column, place.row)
+    }
 }

@@ -3,11 +3,11 @@ ghost use Rattle.std.specs.Prelude.{◌≡◌, ◌≢◌, ◌≤◌, ◌<◌, If
 ghost use Rattle.host_io.specs.Calls.{HasRisen};
 ghost use Rattle.zk_top.specs.Outcome.{Outcome, IsRunOutcome};
 ghost use Rattle.zk_top.specs.Ends.{Ends};
-ghost use Rattle.zk_top.specs.Parts.{Leads, RunLeads, IsOnlyImage, IsRefusal, stop_of};
+ghost use Rattle.zk_top.specs.Parts.{Leads, RunLeads, IsOnlyImage, IsRefusal};
 
 use crate::emulation::emulate;
 use crate::ending::{finish, refuse};
-use crate::files::{FileErr, file_of};
+use crate::files::{file_of, stopped};
 use crate::report::run_text;
 use elf_load::{ElfErr, load};
 use host_io::Host;
@@ -19,17 +19,6 @@ use zk_words::{Status, Which};
 const ELF_LIMIT: u64 = 1 << 26;
 /// An input has at most so many bytes.
 const INPUT_LIMIT: u64 = (1 << 24) - 8;
-
-// How a command stops where a file isn't had.
-fn stopped(error: FileErr, which: Which) -> Status
-    ensures { result ≡ stop_of error which }
-{
-    match error {
-        FileErr::TooLarge => Status::TooLarge(which),
-        FileErr::HostFault => Status::HostFault,
-        FileErr::NoMemory => Status::NoMemory,
-    }
-}
 
 // The image of an ELF file, with no input yet.
 fn image_of(alloc: Global, file: &[u8]) -> Result<Image, Status>

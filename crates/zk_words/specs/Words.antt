@@ -2,7 +2,7 @@
 use Rattle.std.specs.Prelude.{◌≡◌, ℕ, ◌<◌, ◌≤◌, ◌^◌, List, [], ◌∷◌, codes, decimal, map, string_bytes, String}
 use Rattle.std.specs.declared.alloc.Global.{Global}
 use Rattle.zk_words.specs.declared.command.Command.{Command}
-use Rattle.zk_words.specs.declared.command.Command.TheVariants.{Run}
+use Rattle.zk_words.specs.declared.command.Command.TheVariants.{Run, Pil}
 
 -- the bytes of each word
 abbrev pub texts : List (String Global) → List (List ℕ)
@@ -15,3 +15,4 @@ IsNumber least end text n = (text ≡ decimal n) × (least ≤ n) × (n < end)
 -- the words read as the command
 abbrev pub Reads : List (List ℕ) → Command → Type 0
 Reads words (Run steps) = (elf : List ℕ) × (input : List ℕ) × (text : List ℕ) × (words ≡ codes "run" ∷ elf ∷ input ∷ text ∷ []) × IsNumber 1 (2 ^ 32) text steps
+Reads words Pil = (pil : List ℕ) × (tables : List ℕ) × (words ≡ codes "pil" ∷ pil ∷ tables ∷ [])

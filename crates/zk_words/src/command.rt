@@ -10,6 +10,8 @@ use itoa::Buffer;
 pub enum Command {
     /// `run ELF INPUT STEPS`
     Run { steps: u32 },
+    /// `pil PILFILE TABLES`
+    Pil,
 }
 
 // The number that the text is the decimal form of.
@@ -54,6 +56,7 @@ pub fn read_words(words: &[String]) -> Option<Command>
                 None => None,
             }
         }
+        [name, _, _] if name.as_str() == "pil" => Some(Command::Pil),
         _ => None,
     }
 }
@@ -87,8 +90,16 @@ mod tests {
                 "at {line}"
             );
         }
+        for line in ["pil|a|b", "pil||", "pil|pil|pil"] {
+            let words = words(alloc, line)?;
+            assert_eq!(rt; read_words(&words), Some(Command::Pil), "at {line}");
+        }
         for line in [
             "",
+            "pil",
+            "pil|a",
+            "pil|a|b|c",
+            "Pil|a|b",
             "run",
             "run|a|b",
             "run|a|b|3|x",

@@ -1,12 +1,15 @@
 //! The line that reports a refusal.
-ghost use Rattle.std.specs.Prelude.{◌≡◌, ◌++◌, IfOk, OnOk, decimal, codes};
-ghost use Rattle.zk_words.specs.Lines.{line_of, elf_text, fault_text, numbers, HasLine};
+ghost use Rattle.std.specs.Prelude.{◌≡◌, ◌++◌, ◌∷◌, [], IfOk, OnOk, decimal, codes};
+ghost use Rattle.zk_words.specs.Lines.{line_of, elf_text, fault_text, tab_text, pil_text, broken_text, tuple_text, after_first, numbers, HasLine};
 
 use crate::{Status, Which};
 use elf_load::ElfErr;
 use itoa::Buffer;
+use pil_text::{PilErr, PilErrKind};
+use row_check::Broken;
 use rv_model::RunFault;
 use std::alloc::{AllocError, Global};
+use tab_file::{TabErr, TabKind};
 
 // Writes a number behind a space.
 fn push_number(text: &mut Vec<u8>, n: u64) -> Result<(), AllocError>
@@ -75,18 +78,133 @@ fn fault_line(alloc: Global, fault: RunFault) -> Result<Vec<u8>, AllocError>
     }
 }
 
+fn tables_line(alloc: Global, e: TabErr) -> Result<Vec<u8>, AllocError>
+    ensures { IfOk result (λ text. text.items ≡ codes "bad tables " ++ tab_text e.kind ++ numbers (e.at ∷ []) ++ codes "\n") }
+{
+    let name = match e.kind {
+        TabKind::Short => "Short",
+        TabKind::BadMagic => "BadMagic",
+        TabKind::BadVersion => "BadVersion",
+        TabKind::BadAir => "BadAir",
+        TabKind::NoMain => "NoMain",
+        TabKind::NotOneOut => "NotOneOut",
+        TabKind::TooMany => "TooMany",
+        TabKind::BadOrder => "BadOrder",
+        TabKind::BadShape => "BadShape",
+        TabKind::NotCanonical => "NotCanonical",
+        TabKind::Trailing => "Trailing",
+        TabKind::NoMemory => "NoMemory",
+    };
+    line(alloc, "bad tables ", name, &[e.at])
+}
+
+fn pil_line(alloc: Global, e: PilErr) -> Result<Vec<u8>, AllocError>
+    ensures { IfOk result (λ text. text.items ≡ codes "bad pil " ++ pil_text e.kind ++ numbers (e.at ∷ []) ++ codes "\n") }
+{
+    let name = match e.kind {
+        PilErrKind::BadByte => "BadByte",
+        PilErrKind::NumberTooLarge => "NumberTooLarge",
+        PilErrKind::Unexpected => "Unexpected",
+        PilErrKind::TooDeep => "TooDeep",
+        PilErrKind::Repeated => "Repeated",
+        PilErrKind::UnknownName => "UnknownName",
+        PilErrKind::BadRow => "BadRow",
+        PilErrKind::Mixed => "Mixed",
+        PilErrKind::WrongWidth => "WrongWidth",
+        PilErrKind::CyclicPol => "CyclicPol",
+        PilErrKind::DoubleMark => "DoubleMark",
+        PilErrKind::NoMemory => "NoMemory",
+    };
+    line(alloc, "bad pil ", name, &[e.at])
+}
+
+// Writes the numbers of a tuple.
+fn push_tuple(text: &mut Vec<u8>, tuple: &[u64]) -> Result<(), AllocError>
+    ensures { OnOk result (text.new.items ≡ text.old.items ++ tuple_text tuple.now) }
+{
+    match tuple {
+        [first, others @ ..] => {
+            push_decimal(text, *first)?;
+            push_others(text, others)
+        }
+        [] => Ok(()),
+    }
+}
+
+// Writes numbers, each behind a comma.
+fn push_others(text: &mut Vec<u8>, values: &[u64]) -> Result<(), AllocError>
+    ensures { OnOk result (text.new.items ≡ text.old.items ++ after_first values.now) }
+{
+    for &n in values {
+        text.push(b',')?;
+        push_decimal(text, n)?;
+    }
+    Ok(())
+}
+
+// Writes a number.
+fn push_decimal(text: &mut Vec<u8>, n: u64) -> Result<(), AllocError>
+    ensures { OnOk result (text.new.items ≡ text.old.items ++ decimal n) }
+{
+    text.extend_from_slice(Buffer::new().format(n).as_bytes())
+}
+
+// Writes a word and a number behind it.
+fn push_named(text: &mut Vec<u8>, name: &str, n: u64) -> Result<(), AllocError>
+    ensures { OnOk result (text.new.items ≡ text.old.items ++ name.now ++ numbers (n ∷ [])) }
+{
+    text.extend_from_slice(name.as_bytes())?;
+    push_number(text, n)
+}
+
+fn broken_line(alloc: Global, broken: &Broken) -> Result<Vec<u8>, AllocError>
+    ensures { IfOk result (λ text. text.items ≡ codes "broken line " ++ broken_text broken.now ++ codes "\n") }
+{
+    let mut text = Vec::from_slice(alloc, b"broken line ")?;
+    match broken {
+        Broken::At {
+            line,
+            instance,
+            row,
+        } => {
+            push_decimal(&mut text, u64::from(*line))?;
+            push_named(&mut text, " instance", u64::from(*instance))?;
+            push_named(&mut text, " row", u64::from(*row))?;
+        }
+        Broken::Counts {
+            line,
+            tuple,
+            left,
+            right,
+        } => {
+            push_decimal(&mut text, u64::from(*line))?;
+            text.extend_from_slice(b" tuple ")?;
+            push_tuple(&mut text, tuple.as_slice())?;
+            push_named(&mut text, " left", *left)?;
+            push_named(&mut text, " right", *right)?;
+        }
+    }
+    text.push(b'\n')?;
+    Ok(text)
+}
+
 /// The line that reports how a command ended, its line feed with it, where it has one.
 pub fn status_line(alloc: Global, status: &Status) -> Result<Vec<u8>, AllocError>
     requires { HasLine status.now }
     ensures { IfOk result (λ text. text.items ≡ line_of status.now) }
 {
     match status {
+        Status::Broken(broken) => broken_line(alloc, broken),
         Status::BadWords => line(alloc, "bad words", "", &[]),
         Status::BadElf(e) => elf_line(alloc, *e),
         Status::RunFault(fault) => fault_line(alloc, *fault),
         Status::StepLimit(steps) => line(alloc, "step limit", "", &[u64::from(*steps)]),
+        Status::BadTables(e) => tables_line(alloc, *e),
+        Status::BadPil(e) => pil_line(alloc, *e),
         Status::TooLarge(Which::Elf) => line(alloc, "too large ", "elf", &[]),
         Status::TooLarge(Which::Input) => line(alloc, "too large ", "input", &[]),
+        Status::TooLarge(Which::Pil) => line(alloc, "too large ", "pil", &[]),
+        Status::TooLarge(Which::Tables) => line(alloc, "too large ", "tables", &[]),
         Status::Done | Status::HostFault | Status::NoMemory => unreachable!(),
     }
 }

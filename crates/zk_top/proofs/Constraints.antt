@@ -1,0 +1,141 @@
+-- The stages of `pil`, read against its outcome.
+use Rattle.std.proofs.Common.{◌≡◌, ◌≢◌, ◌⊎◌, inl, inr, ℕ, ◌≤◌, ◌^◌, Bool, false, List, [], ◌∷◌, ◌++◌, length, map, Option, Some, Ok, Err, refl, sym, ap, ◌∙◌, subst, arith}
+use Rattle.host_io.specs.World.{World, Asked, Opened}
+use Rattle.gold.specs.declared.instances.Table.{Table}
+use Rattle.gold.specs.declared.shapes.AirShape.{AirShape}
+use Rattle.gold.specs.declared.shapes.Shape.{Shape}
+use Rattle.tab_file.specs.declared.fault.TabErr.{TabErr}
+use Rattle.tab_file.specs.declared.fault.TabKind.{TabKind}
+use Rattle.tab_file.specs.Items.{failure}
+use Rattle.tab_file.specs.Reading.{TabReads, TabFails}
+use Rattle.pil_ast.specs.Term.{Namespace}
+use Rattle.pil_ast.specs.Columns.{Columns}
+use Rattle.pil_ast.specs.Shape.{air_shape}
+use Rattle.pil_text.specs.Text.{Reads, Fails, UnlessMemory, IsDecided}
+use Rattle.pil_text.specs.declared.error.PilErr.{PilErr}
+use Rattle.pil_text.specs.declared.error.PilErrKind.{PilErrKind}
+use Rattle.pil_text.specs.declared.error.PilErrKind.TheVariants as kinds
+use Rattle.wit_columns.specs.Values.{values_of}
+use Rattle.zk_words.specs.declared.status.Which.TheVariants as files
+use Rattle.zk_words.specs.declared.status.Status.{Status}
+use Rattle.zk_words.specs.declared.status.Status.TheVariants as statuses
+use Rattle.zk_top.specs.Outcome.{Outcome, Contents, refused, shape_of, WithFile, WithText, WithTables, OfLines, OfTables, IsPilOutcome}
+use Rattle.zk_top.specs.Parts.{Asks, Stops, Comes, IsOnlyText, IsOnlyFault, IsTextRefusal, IsOnlyTables, IsOnlyFailure, IsTablesRefusal}
+use Rattle.zk_top.proofs.Stages.{Begins, begins_exactly, file_begins, front_asked, refused_asks}
+
+-- a text that reads in one way, or is refused in one way
+pub only_text : (text : List ℕ) (ns : List Namespace) → IsDecided text → Reads text ns → IsOnlyText text ns
+only_text text ns decided reads = (λ other is. decided.one_reading other ns is reads, λ e fails. decided.not_both ns e reads fails)
+
+pub only_fault : (text : List ℕ) (e : PilErr) → IsDecided text → Fails text e → IsOnlyFault text e
+only_fault text e decided fails = (λ ns reads. decided.not_both ns e reads fails, λ other is. decided.one_refusal other e is fails)
+
+-- what a refusal says where memory didn't run out
+pub unless_memory : (k : PilErrKind) (P : Type 0) → k ≢ kinds.NoMemory → UnlessMemory k P → P
+unless_memory kinds.NoMemory P other told = absurd (other refl)
+unless_memory kinds.BadByte P other told = told
+unless_memory kinds.NumberTooLarge P other told = told
+unless_memory kinds.Unexpected P other told = told
+unless_memory kinds.TooDeep P other told = told
+unless_memory kinds.Repeated P other told = told
+unless_memory kinds.UnknownName P other told = told
+unless_memory kinds.BadRow P other told = told
+unless_memory kinds.Mixed P other told = told
+unless_memory kinds.WrongWidth P other told = told
+unless_memory kinds.CyclicPol P other told = told
+unless_memory kinds.DoubleMark P other told = told
+
+-- a table file that fails does so in one way
+same_failure : (k kind : TabKind) (n at : ℕ) → Some (failure k n) ≡ Some (failure kind at) → (k ≡ kind) × (n ≡ at)
+same_failure k kind n at e = let same : failure k n ≡ failure kind at = cc in (ap (λ (f : TabErr). f.kind) same, ap (λ (f : TabErr). f.at) same)
+
+pub only_failure : (file : List ℕ) (shape : Shape) (kind : TabKind) (at : ℕ) → ((tables : List Table) → TabReads file shape tables → ⊥) → TabFails file shape kind at → IsOnlyFailure file shape kind at
+only_failure file shape kind at never fails = (never, λ k n is. same_failure k kind n at (sym is ∙ fails))
+
+abbrev shaped : List AirShape → Bool → Shape
+shaped airs machine = record { airs = airs; machine = machine }
+
+pub same_shape : (shape : Shape) (ns : List Namespace) → shape.airs ≡ map air_shape ns → shape.machine ≡ false → shape ≡ shape_of ns
+same_shape shape ns airs machine = ap (λ (a : List AirShape). shaped a shape.machine) airs ∙ ap (λ (m : Bool). shaped (map air_shape ns) m) machine
+
+-- what the tables come to under a text, where the file reads as them and as no others
+pub tables_on : (names : List Asked) (ns : List Namespace) (file : List ℕ) (tables : List Table) (o : Outcome) → IsOnlyTables file (shape_of ns) tables → OfTables names ns file o → OfLines names ns (values_of (shape_of ns) tables) o
+tables_on names ns file tables o only (inl p) = subst (λ (ts : List Table). OfLines names ns (values_of (shape_of ns) ts) o) (only.0 p.0 p.1) p.2
+tables_on names ns file tables o only (inr q) = absurd (only.1 q.0 q.1 q.2)
+
+-- the names of an outcome that the tables decide
+lines_names : (names : List Asked) (ns : List Namespace) (c : Columns) (o : Outcome) → OfLines names ns c o → o.names ≡ names
+lines_names names ns c o (inl p) = ap (λ (p : Outcome). p.names) p.1
+lines_names names ns c o (inr q) = ap (λ (p : Outcome). p.names) q.2
+
+pub tables_names : (names : List Asked) (ns : List Namespace) (file : List ℕ) (o : Outcome) → OfTables names ns file o → o.names ≡ names
+tables_names names ns file o (inl p) = lines_names names ns (values_of (shape_of ns) p.0) o p.2
+tables_names names ns file o (inr q) = ap (λ (p : Outcome). p.names) q.3
+
+-- a table file that was refused ends the command so
+refused_so : (names : List Asked) (ns : List Namespace) (file : List ℕ) (kind : TabKind) (at : ℕ) (o : Outcome) → IsOnlyFailure file (shape_of ns) kind at → OfTables names ns file o → o ≡ refused names (statuses.BadTables (record { kind = kind; at = at }))
+refused_so names ns file kind at o only (inl p) = absurd (only.0 p.0 p.1)
+refused_so names ns file kind at o only (inr q) = 
+    let same = only.1 q.0 q.1 q.2 in
+    subst (λ (k : TabKind). o ≡ refused names (statuses.BadTables (record { kind = k; at = at }))) same.0
+    (subst (λ (n : ℕ). o ≡ refused names (statuses.BadTables (record { kind = q.0; at = n }))) same.1 q.3)
+
+pub refusal_comes : (ns : List Namespace) (file : List ℕ) (status : Status) → IsTablesRefusal file (shape_of ns) status → Comes (λ names. OfTables names ns file) (Err status)
+refusal_comes ns file status (inl none) = subst (λ (s : Status). Comes (λ names. OfTables names ns file) (Err s)) (sym none) tt
+refusal_comes ns file status (inr told) =
+    subst (λ (s : Status). Comes (λ names. OfTables names ns file) (Err s)) (sym told.2)
+    (λ names o on. refused_so names ns file told.0 told.1 o told.3 on)
+
+-- the report of the lines under tables that the file alone reads as
+pub lines_come : (ns : List Namespace) (file : List ℕ) (tables : List Table) (result : _) → IsOnlyTables file (shape_of ns) tables → Comes (λ names. OfLines names ns (values_of (shape_of ns) tables)) result → Comes (λ names. OfTables names ns file) result
+lines_come ns file tables (Ok text) only comes = λ names o on. comes names o (tables_on names ns file tables o only on)
+lines_come ns file tables (Err statuses.HostFault) only comes = comes
+lines_come ns file tables (Err statuses.NoMemory) only comes = tt
+lines_come ns file tables (Err statuses.Done) only comes = λ names o on. comes names o (tables_on names ns file tables o only on)
+lines_come ns file tables (Err (statuses.Broken b)) only comes = λ names o on. comes names o (tables_on names ns file tables o only on)
+lines_come ns file tables (Err statuses.BadWords) only comes = λ names o on. comes names o (tables_on names ns file tables o only on)
+lines_come ns file tables (Err (statuses.BadElf e)) only comes = λ names o on. comes names o (tables_on names ns file tables o only on)
+lines_come ns file tables (Err (statuses.RunFault f)) only comes = λ names o on. comes names o (tables_on names ns file tables o only on)
+lines_come ns file tables (Err (statuses.StepLimit n)) only comes = λ names o on. comes names o (tables_on names ns file tables o only on)
+lines_come ns file tables (Err (statuses.BadTables e)) only comes = λ names o on. comes names o (tables_on names ns file tables o only on)
+lines_come ns file tables (Err (statuses.BadPil e)) only comes = λ names o on. comes names o (tables_on names ns file tables o only on)
+lines_come ns file tables (Err (statuses.TooLarge w)) only comes = λ names o on. comes names o (tables_on names ns file tables o only on)
+
+module _ (contents : Contents) (pil tables : List ℕ) where
+  abbrev pub pair : List Asked
+  pair = Opened pil ∷ Opened tables ∷ []
+
+  -- the stage of the tables
+  abbrev pub OnText : List Namespace → Outcome → Type 0
+  OnText ns o = WithFile pair (contents tables) (2 ^ 48) files.Tables (OfTables pair ns) o
+
+  -- the stage of the text
+  abbrev pub OnPil : List ℕ → Outcome → Type 0
+  OnPil text o = WithText (Opened pil ∷ []) text OnText o
+
+  pub text_begins : (ns : List Namespace) (o : Outcome) → OnText ns o → Begins pair o
+  text_begins ns o h = file_begins pair (contents tables) (2 ^ 48) files.Tables (OfTables pair ns) o (λ file on. begins_exactly pair o (tables_names pair ns file o on)) h
+
+  shorter : (o : Outcome) → Begins pair o → Begins (Opened pil ∷ []) o
+  shorter o b = record { rest = Opened tables ∷ b.rest; whole = b.whole }
+
+  pub on_pil_begins : (text : List ℕ) (o : Outcome) → OnPil text o → Begins (Opened pil ∷ []) o
+  on_pil_begins text o (inl p) = shorter o (text_begins p.0 o p.2)
+  on_pil_begins text o (inr q) = begins_exactly (Opened pil ∷ []) o (ap (λ (p : Outcome). p.names) q.2)
+
+  pub pil_begins : (o : Outcome) → WithFile (Opened pil ∷ []) (contents pil) (2 ^ 20) files.Pil OnPil o → Begins (Opened pil ∷ []) o
+  pil_begins o h = file_begins (Opened pil ∷ []) (contents pil) (2 ^ 20) files.Pil OnPil o (λ text. on_pil_begins text o) h
+
+  -- the namespaces that were read are the outcome's
+  pub text_on : (text : List ℕ) (ns : List Namespace) (o : Outcome) → IsOnlyText text ns → OnPil text o → OnText ns o
+  text_on text ns o only (inl p) = subst (λ (m : List Namespace). OnText m o) (only.0 p.0 p.1) p.2
+  text_on text ns o only (inr q) = absurd (only.1 q.0 q.1)
+
+  -- the refusal that was told is the outcome's
+  pub text_stops : (text : List ℕ) (status : Status) (o : Outcome) (old new : World) → Asks (Opened pil ∷ []) old new → IsTextRefusal text status → OnPil text o → Stops o status old new
+  text_stops text status o old new asks (inl none) h = subst (λ (s : Status). Stops o s old new) (sym none) (front_asked (Opened pil ∷ []) o old new (on_pil_begins text o h) asks)
+  text_stops text status o old new asks (inr told) h = subst (λ (s : Status). Stops o s old new) (sym told.1) (by h)
+    where
+      by : OnPil text o → Stops o (statuses.BadPil told.0) old new
+      by (inl p) = absurd (told.2.0 p.0 p.1)
+      by (inr q) = refused_asks (Opened pil ∷ []) (statuses.BadPil told.0) o old new (q.2 ∙ ap (λ (e : PilErr). refused (Opened pil ∷ []) (statuses.BadPil e)) (told.2.1 q.0 q.1)) asks

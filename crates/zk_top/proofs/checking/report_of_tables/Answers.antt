@@ -1,0 +1,26 @@
+use Rattle.std.proofs.Common.{◌≡◌, ◌∙◌, ap, subst}
+use Rattle.gold.specs.declared.shapes.Shape.{Shape}
+use Rattle.pil_ast.specs.Columns.{Columns}
+use Rattle.pil_ast.specs.Tree.{namespaces}
+use Rattle.wit_columns.specs.Values.{values_of}
+use Rattle.zk_top.specs.Outcome.{shape_of, OfLines}
+use Rattle.zk_top.specs.Parts.{Comes, IsOnlyTables, IsTablesRefusal}
+use Rattle.zk_top.proofs.Constraints.{same_shape, refusal_comes, lines_come}
+use Rattle.zk_top.proofs.checking.report_of_tables.Goals as goal
+
+pub returns-in-Err-clause-comes : goal.returns-in-Err-clause-comes
+returns-in-Err-clause-comes c =
+    let ns = namespaces c.args.pil.now in
+    let shape : c.in-Ok.shape ≡ shape_of ns = same_shape c.in-Ok.shape ns c.in-Ok.ensures.0 c.in-Ok.ensures.1 in
+    refusal_comes ns c.args.file.items c.in-Err.status (subst (λ (s : Shape). IsTablesRefusal c.args.file.items s c.in-Err.status) shape c.in-Err.ensures.refused)
+
+pub returns-clause-comes : goal.returns-clause-comes
+returns-clause-comes c =
+    let ns = namespaces c.args.pil.now in
+    let tables = c.in-Ok-tables_of.witness.tables in
+    let columns = c.in-Ok-new.columns in
+    let result = c.verdict.result in
+    let shape : c.in-Ok.shape ≡ shape_of ns = same_shape c.in-Ok.shape ns c.in-Ok.ensures.0 c.in-Ok.ensures.1 in
+    let values : values_of columns.shape columns.tables ≡ values_of (shape_of ns) tables = c.in-Ok-new.ensures.values ∙ ap (λ (s : Shape). values_of s tables) shape in
+    let only : IsOnlyTables c.args.file.items (shape_of ns) tables = subst (λ (s : Shape). IsOnlyTables c.args.file.items s tables) shape c.in-Ok-tables_of.ensures.only in
+    lines_come ns c.args.file.items tables result only (subst (λ (v : Columns). Comes (λ names. OfLines names ns v) result) values c.verdict.ensures.comes)
