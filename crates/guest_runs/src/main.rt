@@ -26,9 +26,9 @@ fn main(rt: HostRuntime) -> ExitCode {
         let Ok(words) = words(alloc, guest) else {
             return ExitCode::from(Status::NoMemory.code());
         };
-        let status = top(alloc, &words, &mut host);
-        if status != Status::Done {
-            return ExitCode::from(status.code());
+        let code = top(alloc, &words, &mut host).code();
+        if code != 0 {
+            return ExitCode::from(code);
         }
     }
     ExitCode::SUCCESS

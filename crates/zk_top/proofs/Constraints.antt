@@ -11,7 +11,8 @@ use Rattle.tab_file.specs.Reading.{TabReads, TabFails}
 use Rattle.pil_ast.specs.Term.{Namespace}
 use Rattle.pil_ast.specs.Columns.{Columns}
 use Rattle.pil_ast.specs.Shape.{air_shape}
-use Rattle.pil_text.specs.Text.{Reads, Fails, UnlessMemory, IsDecided}
+use Rattle.pil_text.specs.Refusal.{UnlessMemory}
+use Rattle.pil_text.specs.Text.{Reads, Fails, IsDecided}
 use Rattle.pil_text.specs.declared.error.PilErr.{PilErr}
 use Rattle.pil_text.specs.declared.error.PilErrKind.{PilErrKind}
 use Rattle.pil_text.specs.declared.error.PilErrKind.TheVariants as kinds

@@ -1,10 +1,9 @@
 //! The command `pil`.
-ghost use Rattle.std.specs.Prelude.{◌≡◌, ◌≢◌, ◌≤◌, ◌^◌, ℕ, List, length, IsTrue, IfOk, IfErr, IsErrOf};
+ghost use Rattle.std.specs.Prelude.{◌≡◌, ◌≢◌, ◌≤◌, ◌^◌, length, IfOk, IfErr, IsErrOf};
 ghost use Rattle.gold.specs.Shapes.{HaveShape};
 ghost use Rattle.pil_ast.specs.Tree.{namespaces};
 ghost use Rattle.pil_ast.specs.Columns.{Fits};
 ghost use Rattle.pil_ast.specs.Sound.{IsSound};
-ghost use Rattle.pil_text.specs.Text.{IsDecided};
 ghost use Rattle.host_io.specs.Calls.{HasRisen};
 ghost use Rattle.zk_top.specs.Outcome.{Outcome, OfLines, OfTables, IsPilOutcome};
 ghost use Rattle.zk_top.specs.Ends.{Ends};
@@ -17,7 +16,7 @@ use bus_check::{first_broken, one_verdict};
 use gold::{Shape, Witness};
 use host_io::Host;
 use pil_ast::{Columns, Pil};
-use pil_text::PilErrKind;
+use pil_text::{PilErrKind, one_answer};
 use std::alloc::Global;
 use tab_file::TabKind;
 use tab_file::laws::{one_text, reads_or_fails};
@@ -29,13 +28,6 @@ const TEXT_LIMIT: u64 = 1 << 20;
 /// A table file has at most so many bytes.
 const TABLES_LIMIT: u64 = 1 << 48;
 
-// Whether it is known that each text reads in one way, or is refused in one way, and not both.
-fn text_is_decided() -> bool
-    ensures { IsTrue result → (text : List ℕ) → IsDecided text }
-{
-    false
-}
-
 // The constraints of a text.
 fn constraints_of(alloc: Global, text: &[u8]) -> Result<Pil, Status>
     requires { length text.now ≤ 2 ^ 20 }
@@ -43,9 +35,7 @@ fn constraints_of(alloc: Global, text: &[u8]) -> Result<Pil, Status>
     ensures sound { IfOk result (λ pil. IsSound (namespaces pil)) }
     ensures refused { IfErr result (IsTextRefusal text.now) }
 {
-    if !text_is_decided() {
-        return Err(Status::NoMemory);
-    }
+    one_answer();
     match pil_text::read(alloc, text) {
         Ok(pil) => Ok(pil),
         Err(e) => match e.kind {
