@@ -10,7 +10,7 @@ use Rattle.rv_model.specs.declared.answer.Public.{Public}
 use Rattle.rv_model.specs.declared.cpu.Cpu.{Cpu}
 use Rattle.rv_model.proofs.Ends.{state_first}
 use Rattle.min_trace.specs.Record.{cpu_at, olds_between}
-use Rattle.min_trace.specs.Chunk.{Piece, IsStep, IsChunk}
+use Rattle.min_trace.specs.Chunk.{Piece, IsStep}
 use Rattle.rv_emu.specs.Emulator.{IsAfter, IsEmu}
 use Rattle.rv_emu.specs.Answered.{Place, IsWhole, IsLast, FaultsIn, IsUsedUp}
 use Rattle.rv_emu.proofs.Executes.{old_at_halt}
