@@ -1,21 +1,18 @@
 -- How the parts of a command join.
-use Rattle.std.proofs.Common.{rules, ◌≡◌, ◌⊎◌, inl, inr, ℕ, zero, suc, ◌<◌, ◌≤◌, ◌+◌, ◌-◌, ◌^◌, List, [], ◌∷◌, ◌++◌, length, take, min, Option, Some, None, Ok, Err, Result, Vec, Global, Bool, true, false, MatchBool, nat_le, refl, sym, ap, ◌∙◌, arith, subst, append_assoc, append-nil}
+use Rattle.std.proofs.Common.{◌≡◌, ◌⊎◌, inl, inr, ℕ, zero, suc, ◌<◌, ◌≤◌, ◌+◌, List, [], ◌∷◌, ◌++◌, length, take, min, Option, Some, None, Ok, Err, Result, Vec, Global, Bool, true, false, MatchBool, nat_le, refl, sym, ap, ◌∙◌, arith, subst, append_assoc, append-nil}
 use Rattle.std.proofs.Math.Seq.{take-length}
-use Rattle.host_io.specs.World.{World, Asked, Opened}
+use Rattle.host_io.specs.World.{World, Asked}
 use Rattle.host_io.specs.Calls.{HasReportedFront}
 use Rattle.rv_model.specs.Image.{Img}
 use Rattle.rv_model.specs.Run.{End, Halted, Faulted, Limited, end_within}
-use Rattle.elf_load.specs.declared.error.ElfErr.{ElfErr}
-use Rattle.zk_words.specs.Lines.{line_of}
 use Rattle.zk_words.specs.declared.status.Which.{Which}
-use Rattle.zk_words.specs.declared.status.Which.TheVariants as which_file
 use Rattle.zk_words.specs.declared.status.Status.{Status}
 use Rattle.zk_words.specs.declared.status.Status.TheVariants as statuses
 use Rattle.zk_top.specs.declared.files.FileErr.{FileErr}
 use Rattle.zk_top.specs.declared.files.FileErr.TheVariants as errors
-use Rattle.zk_top.specs.Outcome.{Outcome, Contents, reporting, refused, unanswered, of_run, with_input, WithFile, WithImage, IsRunOutcome}
-use Rattle.zk_top.specs.Ends.{Early, Ends}
-use Rattle.zk_top.specs.Parts.{Asks, AsksAtMost, IsNotRead, IsDecided, RunLeads, Stops, Leads, IsOnlyImage, IsOnlyRefusal, IsRefusal, stop_of}
+use Rattle.zk_top.specs.Outcome.{Outcome, reporting, refused, of_run, WithFile}
+use Rattle.zk_top.specs.Ends.{Early}
+use Rattle.zk_top.specs.Parts.{Asks, AsksAtMost, IsNotRead, IsDecided, RunLeads, Stops, Leads, stop_of}
 
 -- nothing was asked for
 pub asks_nothing : (w : World) → Asks [] w w

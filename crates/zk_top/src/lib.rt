@@ -2,6 +2,7 @@
 #![tactic(auto)]
 
 mod commands;
+mod emulation;
 mod ending;
 mod files;
 mod laws;

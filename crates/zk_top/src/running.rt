@@ -5,12 +5,13 @@ ghost use Rattle.zk_top.specs.Outcome.{Outcome, IsRunOutcome};
 ghost use Rattle.zk_top.specs.Ends.{Ends};
 ghost use Rattle.zk_top.specs.Parts.{Leads, RunLeads, IsOnlyImage, IsRefusal, stop_of};
 
+use crate::emulation::emulate;
 use crate::ending::{finish, refuse};
 use crate::files::{FileErr, file_of};
 use crate::report::run_text;
 use elf_load::{ElfErr, load};
 use host_io::Host;
-use rv_model::{Image, RunEnd, run};
+use rv_model::{Image, RunEnd};
 use std::alloc::Global;
 use zk_words::{Status, Which};
 
@@ -43,11 +44,11 @@ fn image_of(alloc: Global, file: &[u8]) -> Result<Image, Status>
 }
 
 // The report of the image's run, or how it ends without.
-fn report_of_run(alloc: Global, image: &Image, steps: u32) -> Result<Vec<u8>, Status>
-    ensures leads { RunLeads image.now steps result }
+fn report_of_run(alloc: Global, image: Image, steps: u32) -> Result<Vec<u8>, Status>
+    ensures leads { RunLeads image steps result }
     ensures no_bad_words { IsErrOf result Status.BadWords → ⊥ }
 {
-    match run(alloc, image, steps) {
+    match emulate(alloc, image, steps) {
         Ok(ran) => match run_text(alloc, &ran) {
             Ok(text) => Ok(text),
             Err(_) => Err(Status::NoMemory),
@@ -81,7 +82,7 @@ fn work<H: Host>(
         Err(status) => return Err(status),
     };
     match file_of(alloc, host, input, INPUT_LIMIT) {
-        Ok(input) => report_of_run(alloc, &image.with_input(input), steps),
+        Ok(input) => report_of_run(alloc, image.with_input(input), steps),
         Err(e) => Err(stopped(e, Which::Input)),
     }
 }

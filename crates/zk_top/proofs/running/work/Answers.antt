@@ -1,4 +1,4 @@
-use Rattle.std.proofs.Common.{◌≡◌, ℕ, ◌-◌, ◌^◌, List, [], ◌∷◌, Option, Some, sym, ap, ◌∙◌, subst}
+use Rattle.std.proofs.Common.{◌≡◌, ℕ, ◌-◌, ◌^◌, List, [], ◌∷◌, Some, sym, ap, ◌∙◌, subst}
 use Rattle.host_io.specs.World.{Opened}
 use Rattle.rv_model.specs.Image.{Img}
 use Rattle.zk_words.specs.declared.status.Which.TheVariants as files
@@ -36,7 +36,7 @@ returns-in-Ok-file_of-clause-leads g c = λ told o is.
     let new = g.H.Host.world c.file_of-2.new.host in
     let image = c.in-Ok-image_of.image in
     let bytes = c.in-Ok-file_of.input.items in
-    let result = c.report_of_run-in-Ok-file_of.result in
+    let result = c.report_of_run.result in
     let read = c.in-Ok.ensures.read told in
     let read_input = c.in-Ok-file_of.ensures.read (c.in-Ok.ensures.told told) in
     let on = file_on (Opened c.args.elf.now ∷ []) (old.contents c.args.elf.now) (2 ^ 26) files.Elf (OnFile old.contents c.args.elf.now c.args.input.now c.args.steps) o c.in-Ok.file.items read.found read.fits is in
@@ -44,7 +44,7 @@ returns-in-Ok-file_of-clause-leads g c = λ told o is.
     let on_image = image_on old.contents c.args.elf.now c.args.input.now c.args.steps c.in-Ok.file.items image o only on in
     let found : old.contents c.args.input.now ≡ Some bytes = sym (ap (λ (contents : Contents). contents c.args.input.now) read.asks.contents) ∙ read_input.found in
     let ran = file_on (both old.contents c.args.elf.now c.args.input.now c.args.steps) (old.contents c.args.input.now) (2 ^ 24 - 8) files.Input (OnBytes old.contents c.args.elf.now c.args.input.now c.args.steps image) o bytes found read_input.fits on_image in
-    let leads : RunLeads (with_input image bytes) c.args.steps result = subst (λ (i : Img). RunLeads i c.args.steps result) c.with_input.ensures c.report_of_run-in-Ok-file_of.ensures.leads in
+    let leads : RunLeads (with_input image bytes) c.args.steps result = subst (λ (i : Img). RunLeads i c.args.steps result) c.with_input.ensures c.report_of_run.ensures.leads in
     run_leads (both old.contents c.args.elf.now c.args.input.now c.args.steps) (with_input image bytes) c.args.steps o result old new (asks_both (Opened c.args.elf.now ∷ []) (Opened c.args.input.now ∷ []) old mid new read.asks read_input.asks) ran leads
 
 pub returns-clause-leads : goal.returns-clause-leads

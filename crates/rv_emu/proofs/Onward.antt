@@ -1,0 +1,45 @@
+-- One step along a chunk.
+use Rattle.std.proofs.Common.{◌≡◌, ◌+◌, ℕ, zero, suc, List, [], ◌∷◌, ◌++◌, refl, ap, sym, subst, ◌∙◌, arith, add-one}
+use Rattle.std.proofs.lemmas.Grind.{flat_map-append}
+use Rattle.std.proofs.lemmas.List.{append-nil}
+use Rattle.std.specs.List.{flat_map, range_with_len}
+use Rattle.rv_model.specs.Image.{Img}
+use Rattle.rv_model.specs.State.{State, step}
+use Rattle.rv_model.specs.Run.{state_at, step_at, MeetsLimit}
+use Rattle.rv_model.specs.declared.answer.StepAnswer.TheVariants as answers
+use Rattle.rv_model.proofs.Ends.{state_next, meets_next}
+use Rattle.min_trace.specs.Record.{instr_at, old_at, olds_between}
+use Rattle.rv_emu.specs.Emulator.{old_here, Leads, IsAfter}
+
+old_here_is : (image : Img) (j : ℕ) → old_here image (state_at image j) ≡ old_at image j
+unfolding old_here old_at instr_at
+old_here_is image j = refl
+
+shifted : (a n : ℕ) → range_with_len a (suc n) ≡ range_with_len a n ++ (a + n) ∷ []
+shifted a zero = let e : a ≡ a + 0 = omega arith in ap (λ k. k ∷ []) e
+shifted a (suc n) =
+    let e : a + 1 + n ≡ a + suc n = omega arith in
+    ap (λ xs. a ∷ xs) (shifted (a + 1) n ∙ ap (λ k. range_with_len (a + 1) n ++ k ∷ []) e)
+
+range_more : (a n : ℕ) → range_with_len a (n + 1) ≡ range_with_len a n ++ (a + n) ∷ []
+range_more a n = rw add-one (shifted a n)
+
+pub olds_more : (image : Img) (from steps : ℕ) → olds_between image from (steps + 1) ≡ olds_between image from steps ++ old_at image (from + steps)
+olds_more image from steps = ap (flat_map (old_at image)) (range_more from steps) ∙ flat_map-append (old_at image) (range_with_len from steps) ((from + steps) ∷ [])
+    ∙ ap (λ xs. olds_between image from steps ++ xs) (append-nil (old_at image (from + steps)))
+
+pub after_more : (image : Img) (from steps : ℕ) (s t : State) (old new : List ℕ) → IsAfter image from steps s old → Leads (step image s) (old_here image s) answers.Next s t old new → IsAfter image from (steps + 1) t new
+after_more image from steps s t old new a leads =
+    let more : from + steps + 1 ≡ from + (steps + 1) = omega arith in
+    let touched : old_here image s ≡ old_at image (from + steps) = ap (old_here image) a.state ∙ old_here_is image (from + steps) in
+    record {
+      on = subst (MeetsLimit image) more (meets_next image (from + steps) s t a.state leads.0 a.on);
+      state = state_next image (from + steps) s t a.state leads.0 ∙ ap (state_at image) more;
+      olds = leads.1 ∙ ap (λ xs. xs ++ old_here image s) a.olds ∙ ap (λ xs. olds_between image from steps ++ xs) touched ∙ sym (olds_more image from steps);
+    }
+
+pub after_same : (image : Img) (from steps : ℕ) (s t : State) (old new : List ℕ) → IsAfter image from steps s old → t ≡ s → new ≡ old → IsAfter image from steps t new
+after_same image from steps s t old new a same kept = record { on = a.on; state = same ∙ a.state; olds = kept ∙ a.olds }
+
+pub answer_here : (image : Img) (j : ℕ) (s : State) → s ≡ state_at image j → step_at image j ≡ step image s
+answer_here image j s is = ap (step image) (sym is)

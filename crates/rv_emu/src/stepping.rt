@@ -1,0 +1,119 @@
+//! Steps within a chunk.
+ghost use Rattle.std.specs.Prelude.{◌≡◌, ◌+◌, ◌≤◌, ◌<◌, ℕ, IfOk, OnErr};
+ghost use Rattle.rv_model.specs.State.{executed, step};
+ghost use Rattle.rv_model.specs.Cpu.{access};
+ghost use Rattle.mem_pages.specs.Memory.{word_of};
+ghost use Rattle.rv_emu.specs.Emulator.{state_of, old_by, old_here, Leads, IsTouched, IsAfter, Stopped};
+
+use crate::code::Code;
+use mem_pages::Memory;
+use rv_model::{Cpu, RunFault, StepAnswer, is_store};
+use rv_word::{Instr, decode};
+use std::alloc::AllocError;
+
+// What the instruction touches, if it makes an access at a good address: the doubleword is noted, and a store puts its
+// value. What is answered is the doubleword as it was. It is noted first, so that nothing has changed where memory is
+// wanting.
+#[inline(always)]
+fn touch(
+    instr: &Instr,
+    cpu: &Cpu,
+    memory: &mut Memory,
+    olds: &mut Vec<u64>,
+) -> Result<u64, AllocError>
+    ensures ok { IfOk result (λ old. IsTouched instr.now (state_of cpu.now memory.old) (access instr.now (state_of cpu.now memory.old)) old (word_of memory.new) olds.old.items olds.new.items) }
+    ensures err { OnErr result ((memory.new ≡ memory.old) × (olds.new.items ≡ olds.old.items)) }
+{
+    let Some(access) = cpu.access(instr) else {
+        return Ok(0);
+    };
+    if !access.is_good() {
+        return Ok(0);
+    }
+    let index = access.index();
+    let old = memory.word(index);
+    olds.push(old)?;
+    if is_store(instr) {
+        if let Err(error) = memory.set_word(index, access.result(old)) {
+            olds.pop();
+            return Err(error);
+        }
+    }
+    Ok(old)
+}
+
+#[inline(always)]
+fn execute(
+    instr: &Instr,
+    cpu: &mut Cpu,
+    memory: &mut Memory,
+    olds: &mut Vec<u64>,
+) -> Result<StepAnswer, AllocError>
+    ensures ok { IfOk result (λ answer. Leads (executed instr.now (state_of cpu.old memory.old)) (old_by instr.now (state_of cpu.old memory.old)) answer (state_of cpu.old memory.old) (state_of cpu.new memory.new) olds.old.items olds.new.items) }
+    ensures err { OnErr result ((state_of cpu.new memory.new ≡ state_of cpu.old memory.old) × (olds.new.items ≡ olds.old.items)) }
+{
+    let old = touch(instr, cpu, memory, olds)?;
+    Ok(cpu.apply(instr, old))
+}
+
+// A step at a pc whose word was not decoded before.
+#[cold]
+fn fetch_and_execute(
+    code: &Code,
+    cpu: &mut Cpu,
+    memory: &mut Memory,
+    olds: &mut Vec<u64>,
+) -> Result<StepAnswer, AllocError>
+    ensures ok { IfOk result (λ answer. Leads (step code.now (state_of cpu.old memory.old)) (old_here code.now (state_of cpu.old memory.old)) answer (state_of cpu.old memory.old) (state_of cpu.new memory.new) olds.old.items olds.new.items) }
+    ensures err { OnErr result ((state_of cpu.new memory.new ≡ state_of cpu.old memory.old) × (olds.new.items ≡ olds.old.items)) }
+{
+    let pc = cpu.pc;
+    match code.fetch(pc) {
+        None => Ok(StepAnswer::Fault(RunFault::BadPc(pc))),
+        Some(word) => match decode(word) {
+            None => Ok(StepAnswer::Fault(RunFault::Illegal(pc, word))),
+            Some(instr) => execute(&instr, cpu, memory, olds),
+        },
+    }
+}
+
+#[inline(always)]
+fn advance(
+    code: &Code,
+    cpu: &mut Cpu,
+    memory: &mut Memory,
+    olds: &mut Vec<u64>,
+) -> Result<StepAnswer, AllocError>
+    ensures ok { IfOk result (λ answer. Leads (step code.now (state_of cpu.old memory.old)) (old_here code.now (state_of cpu.old memory.old)) answer (state_of cpu.old memory.old) (state_of cpu.new memory.new) olds.old.items olds.new.items) }
+    ensures err { OnErr result ((state_of cpu.new memory.new ≡ state_of cpu.old memory.old) × (olds.new.items ≡ olds.old.items)) }
+{
+    match code.instr(cpu.pc) {
+        Some(instr) => execute(instr, cpu, memory, olds),
+        None => fetch_and_execute(code, cpu, memory, olds),
+    }
+}
+
+/// Goes on within a chunk of which `steps` were done, until `most` are done or a step doesn't lead on. What is answered
+/// is Next in the first case; in the other the machine stands before that step. Where memory is wanting it stands
+/// before the step that wants it.
+pub fn go_on(
+    code: &Code,
+    cpu: &mut Cpu,
+    memory: &mut Memory,
+    olds: &mut Vec<u64>,
+    steps: &mut u32,
+    most: u32,
+) -> Result<StepAnswer, AllocError>
+    requires { steps.old ≤ most }
+    ensures after { (from : ℕ) → IsAfter code.now from steps.old (state_of cpu.old memory.old) olds.old.items → IsAfter code.now from steps.new (state_of cpu.new memory.new) olds.new.items }
+    ensures few { steps.new ≤ most }
+    ensures stopped { IfOk result (λ answer. (from : ℕ) → IsAfter code.now from steps.old (state_of cpu.old memory.old) olds.old.items → Stopped answer code.now from steps.new most) }
+{
+    while *steps < most {
+        match advance(code, cpu, memory, olds) {
+            Ok(StepAnswer::Next) => *steps += 1,
+            answer => return answer,
+        }
+    }
+    Ok(StepAnswer::Next)
+}
