@@ -33,6 +33,7 @@ early_report names status text start now after asks front = record {
   asked = ap (λ (w : World). w.asked) front.after ∙ asks.asked ∙ ap (λ (ns : List Asked). start.asked ++ ns) (sym (take-length names));
   bytes = front.count;
   reported = ap (λ (w : World). w.reported) front.after ∙ ap (λ (bs : List ℕ). bs ++ take front.count text) asks.reported;
+  quiet = λ fewer. absurd (omega (arith, fewer));
   contents = ap (λ (w : World). w.contents) front.after ∙ asks.contents;
 }
 
@@ -43,6 +44,7 @@ early_front o start now front = record {
   asked = front.asks.asked;
   bytes = 0;
   reported = front.asks.reported ∙ sym (append-nil start.reported);
+  quiet = λ fewer. refl;
   contents = front.asks.contents;
 }
 
