@@ -1,6 +1,7 @@
 #!/usr/bin/env python3
-"""Seconds that the built program run_plan takes for the plan of 2^22 - 1 full chunks, the longest run that a limit of
-steps allows. Best of three. The number of jobs and the sum over their parts are computed here too, from the rows alone.
+"""Seconds that the built program run_plan takes for the plan of 2^22 - 1 chunks, as many full ones as the longest run
+has, with the made-up counts below for each. Best of three. The number of jobs and the sum over their parts are computed
+here too, from the rows alone.
 
 Usage: planning.py RUN_PLAN [CHUNKS]
 """

@@ -1,4 +1,4 @@
-//! Plans of chunks that were counted by hand.
+//! Plans of made-up counts.
 ghost use Rattle.std.specs.Prelude.{◌≡◌, ◌≤◌, ◌<◌, ◌^◌};
 
 use planner::{Counts, Job, Plan};
@@ -8,7 +8,7 @@ use std::io::{self, ErrorKind};
 /// A plan takes at most so many chunks.
 const MOST: u32 = 1 << 22;
 
-/// The rows of a full chunk with some of each operation.
+/// Counts that a plan takes for a full chunk. No run has them: a full chunk has 1,024 operations together.
 const FULL: Counts = Counts {
     steps: 1024,
     binary: 424,
@@ -46,7 +46,7 @@ impl Tally {
     }
 }
 
-/// The jobs of a plan of `count` full chunks, summed up; `InvalidInput` for more than a plan takes.
+/// The jobs of a plan of `count` chunks with these counts, summed up; `InvalidInput` for more than a plan takes.
 pub fn tally_of(alloc: Global, count: u32) -> io::Result<Tally> {
     if count > MOST {
         return Err(ErrorKind::InvalidInput.into());

@@ -1,8 +1,8 @@
 //! Cuts a run into chunks and jobs and prints them, for tests and measurements.
 //!
 //! `chunks N` runs N additions and the call that halts: it prints how many chunks they are, and each job in the order in
-//! which it is handed out, with the chunk, skip and take of each of its parts. `plan K` plans K chunks by counts of which
-//! each is the same, and prints how many jobs they are and a sum over their parts.
+//! which it is handed out, with the chunk, skip and take of each of its parts. `plan K` plans K chunks by made-up counts,
+//! the same for each, and prints how many jobs they are and a sum over their parts.
 #![tactic(auto)]
 
 mod additions;
