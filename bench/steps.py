@@ -1,6 +1,6 @@
 #!/usr/bin/env python3
 """Steps per second of `zkw run` on a loop of ten million instructions, beside the plain Rust machine
-of plain_run.rs, which decodes at each step too, in one run on one machine. Best of five.
+of plain_run.rs, which decodes at each step where zkw decodes once, in one run on one machine. Best of five.
 
 Usage: steps.py ZKW [PLAIN_RUN]; with one argument plain_run.rs is built into a temporary folder.
 """

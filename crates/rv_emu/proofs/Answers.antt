@@ -1,18 +1,18 @@
 -- What the way along a chunk says of the emulator's answer.
-use Rattle.std.proofs.Common.{◌≡◌, ◌+◌, ◌-◌, ◌*◌, ◌<◌, ◌≤◌, ◌^◌, ℕ, List, [], ◌++◌, replicate, min, refl, ap, sym, subst, ◌∙◌, inl, inr, arith}
+use Rattle.std.proofs.Common.{◌≡◌, ◌+◌, ◌-◌, ◌*◌, ◌<◌, ◌≤◌, ◌^◌, ℕ, List, [], ◌++◌, replicate, min, refl, ap, sym, subst, ◌∙◌, inr, arith}
 use Rattle.std.proofs.lemmas.List.{append-nil}
 use Rattle.rv_model.specs.Image.{Img, initial_word}
-use Rattle.rv_model.specs.State.{State, Answer, Next, Halt, Fault}
+use Rattle.rv_model.specs.State.{State, Halt, Fault}
 use Rattle.rv_model.specs.Cpu.{cpu_of, with_memory}
-use Rattle.rv_model.specs.Run.{state_at, step_at, IsNext, IsHalt, public_of, RunsTo, MeetsLimit}
+use Rattle.rv_model.specs.Run.{state_at, step_at, IsHalt, public_of, RunsTo, MeetsLimit}
 use Rattle.rv_model.specs.declared.answer.RunFault.{RunFault}
 use Rattle.rv_model.specs.declared.answer.Public.{Public}
 use Rattle.rv_model.specs.declared.cpu.Cpu.{Cpu}
 use Rattle.rv_model.proofs.Ends.{state_first}
-use Rattle.min_trace.specs.Record.{cpu_at, olds_between}
-use Rattle.min_trace.specs.Chunk.{Piece, IsStep, IsChunk}
+use Rattle.min_trace.specs.Record.{olds_between}
+use Rattle.min_trace.specs.Chunk.{Piece, IsStep}
 use Rattle.rv_emu.specs.Emulator.{IsAfter, IsEmu}
-use Rattle.rv_emu.specs.Answered.{Place, IsWhole, IsLast, FaultsIn, IsUsedUp}
+use Rattle.rv_emu.specs.Answered.{Place, IsLast, FaultsIn, IsUsedUp}
 use Rattle.rv_emu.proofs.Executes.{old_at_halt}
 use Rattle.rv_emu.proofs.Onward.{olds_more}
 
@@ -46,45 +46,6 @@ begins image limit pc word noted small entry memory none =
       within = omega arith;
       small = small;
     }
-
--- the start of the next chunk
-pub next_begins : (image : Img) (limit number steps : ℕ) (first next : Cpu) (now : State) (noted left : List ℕ) → IsEmu image limit number steps first now noted → steps ≡ 1024 → next ≡ cpu_of now → left ≡ [] → IsEmu image limit (number + 1) 0 next now left
-next_begins image limit number steps first next now noted left e full begun none =
-    let on : 1024 * number + steps ≡ 1024 * (number + 1) + 0 = omega arith in
-    let at : 1024 * number + steps ≡ 1024 * (number + 1) = omega arith in
-    record {
-      after = record { on = subst (MeetsLimit image) on e.after.on; state = e.after.state ∙ ap (state_at image) on; olds = none };
-      begun = begun ∙ ap cpu_of e.after.state ∙ ap (cpu_at image) at;
-      most = omega arith;
-      within = omega (arith, e.within);
-      small = e.small;
-    }
-
-next_is_step : (a : Answer) → IsNext a → IsStep a
-next_is_step (Next t) h = tt
-next_is_step Halt h = absurd h
-next_is_step (Fault f) h = absurd h
-
-pub whole : (p : Place) (image : Img) (limit number steps : ℕ) (first : Cpu) (now : State) (noted : List ℕ) → place image limit number ≡ p → IsEmu image limit number steps first now noted → steps ≡ 1024 → IsWhole p (piece number first 1024 noted)
-whole p image limit number steps first now noted v e full =
-    let on : MeetsLimit image (1024 * number + 1024) = subst (λ n. MeetsLimit image (1024 * number + n)) full e.after.on in
-    let within : 1024 * number + 1024 ≤ limit = omega (arith, e.within) in
-    subst (λ q. IsWhole q (piece number first 1024 noted)) v (record {
-      chunk = record {
-        number = omega (arith, e.small);
-        some = omega arith;
-        most = omega arith;
-        start = e.begun;
-        on = λ j below. on j (omega arith);
-        last = next_is_step _ (on (1024 * number + 1024 - 1) (omega arith));
-        whole = inl refl;
-        olds = e.after.olds ∙ ap (olds_between image (1024 * number)) full;
-      };
-      number = refl;
-      steps = refl;
-      on = on;
-      within = within;
-    })
 
 runs_to : (image : Img) (l n : ℕ) (public : Public) → n - 1 ≡ l → 0 < n → step_at image l ≡ Halt → MeetsLimit image l → public ≡ public_of (state_at image l) → RunsTo image n public
 runs_to image l n public at some is meets told = record {
@@ -162,11 +123,3 @@ last_told p image limit number steps more most first now then noted notes c publ
     let stop = stopped (1024 * number) f.before.after in
     let e = further p image limit number steps more most first now then noted notes f in
     (subst (λ d. IsLast p d public) (sym is) (last p image limit number more first then notes public f.view e stop.0 (omega (arith, stop.1, f.bound)) (omega (arith, stop.1, f.bound)) told), f.view)
-
-pub whole_told : (p : Place) (image : Img) (limit number steps more most : ℕ) (first : Cpu) (now then : State) (noted notes : List ℕ) (c : Piece) → Found p image limit number steps more most first now then noted notes
-    → ((from : ℕ) → IsAfter image from steps now noted → more ≡ most) → 1024 ≤ most → c ≡ piece number first 1024 notes
-    → IsWhole p c × (place image limit (number + 1) ≡ record { image = p.image; limit = p.limit; number = p.number + 1 })
-whole_told p image limit number steps more most first now then noted notes c f stopped full is =
-    let stop = stopped (1024 * number) f.before.after in
-    let e = further p image limit number steps more most first now then noted notes f in
-    (subst (IsWhole p) (sym is) (whole p image limit number more first then notes f.view e (omega (arith, stop, full, f.bound))), ap (λ (q : Place). place q.image q.limit (q.number + 1)) f.view)

@@ -1,5 +1,5 @@
 -- What an instruction does to the emulator.
-use Rattle.std.proofs.Common.{◌≡◌, ◌==◌, ℕ, ◌+◌, ◌/◌, ◌%◌, ◌^◌, ◌<◌, Bool, true, false, nat_lt, if◌then◌else◌, List, [], ◌∷◌, ◌++◌, Option, Some, None, IfSome, unwrap_or, Result, Ok, Err, IfOk, inl, inr, refl, ap, sym, subst, ◌∙◌}
+use Rattle.std.proofs.Common.{◌≡◌, ◌==◌, ℕ, ◌/◌, ◌%◌, ◌^◌, ◌<◌, Bool, true, false, nat_lt, if◌then◌else◌, List, [], ◌∷◌, ◌++◌, Option, Some, None, IfSome, unwrap_or, Result, Ok, Err, IfOk, inl, inr, refl, ap, sym, subst, ◌∙◌}
 use Rattle.std.specs.declared.alloc.AllocError.{AllocError}
 use Rattle.std.proofs.lemmas.Bool.{eq-eqb, lt-ltb}
 use Rattle.std.proofs.lemmas.List.{append-nil}
@@ -9,8 +9,8 @@ use Rattle.rv_word.specs.declared.instr.Instr.TheVariants.{Lui, Auipc, Jal, Jalr
 use Rattle.rv_word.specs.Is.{decoded}
 use Rattle.rv_model.specs.Image.{Img, fetch}
 use Rattle.rv_model.specs.Align.{width, aligned}
-use Rattle.rv_model.specs.State.{State, Answer, Next, Halt, Fault, executed, executed_fetch, executed_word, step, load, store, at_address, with_word}
-use Rattle.rv_model.specs.Cpu.{with_memory, told, access, is_store, IsGood, Touches, memory_after, KeepsUnlessNext}
+use Rattle.rv_model.specs.State.{State, Answer, Next, Halt, Fault, executed, executed_fetch, step, load, store, at_address, with_word}
+use Rattle.rv_model.specs.Cpu.{with_memory, access, is_store, IsGood, memory_after, KeepsUnlessNext}
 use Rattle.rv_model.specs.Run.{state_at, step_at}
 use Rattle.rv_model.specs.declared.access.Access.{Access}
 use Rattle.rv_model.specs.declared.answer.RunFault.{RunFault}

@@ -1,8 +1,8 @@
 -- Of the emulator's answers at one place only one is so, and it tells the run's end.
-use Rattle.std.proofs.Common.{◌≡◌, ◌+◌, ◌-◌, ◌*◌, ◌<◌, ◌≤◌, ℕ, Result, Ok, Err, ◌⊎◌, inl, inr, refl, ap, sym, subst, ◌∙◌, arith}
+use Rattle.std.proofs.Common.{◌≡◌, ◌+◌, ◌-◌, ◌*◌, ◌<◌, ℕ, Result, Ok, Err, inl, inr, refl, ap, sym, subst, ◌∙◌, arith}
 use Rattle.rv_model.specs.Image.{Img}
-use Rattle.rv_model.specs.State.{Answer, Halt, Fault}
-use Rattle.rv_model.specs.Run.{step_at, IsNext, RunsTo, FaultsAt, MeetsLimit, End, Halted, Faulted, Limited, end_within}
+use Rattle.rv_model.specs.State.{Halt, Fault}
+use Rattle.rv_model.specs.Run.{step_at, IsNext, MeetsLimit, Halted, Faulted, Limited, end_within}
 use Rattle.rv_model.specs.declared.answer.Public.{Public}
 use Rattle.rv_model.specs.declared.answer.RunFault.{RunFault}
 use Rattle.rv_model.specs.declared.answer.RunEnd.{RunEnd}

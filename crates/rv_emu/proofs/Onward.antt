@@ -4,9 +4,8 @@ use Rattle.std.proofs.lemmas.Grind.{flat_map-append}
 use Rattle.std.proofs.lemmas.List.{append-nil}
 use Rattle.std.specs.List.{flat_map, range_with_len}
 use Rattle.rv_model.specs.Image.{Img}
-use Rattle.rv_model.specs.State.{State, Halt, Fault, step}
+use Rattle.rv_model.specs.State.{State, step}
 use Rattle.rv_model.specs.Run.{state_at, step_at, MeetsLimit}
-use Rattle.rv_model.specs.declared.answer.StepAnswer.{StepAnswer}
 use Rattle.rv_model.specs.declared.answer.StepAnswer.TheVariants as answers
 use Rattle.rv_model.proofs.Ends.{state_next, meets_next}
 use Rattle.min_trace.specs.Record.{instr_at, old_at, olds_between}

@@ -8,5 +8,4 @@ ghost use Rattle.rv_emu.specs.declared.emu.Step.{Step};
 /// where [`crate::Emu::next_chunk`] says that it comes.
 pub fn one_answer()
     ensures { (p q r : Place) (a b : Result Step RunEnd) → IsOnly p q r a b }
-{
-}
+{}

@@ -1,5 +1,5 @@
 //! Chunks of small programs.
-ghost use Rattle.std.specs.Prelude.{◌≡◌};
+ghost use Rattle.std.specs.Prelude.{◌≡◌, IfSome};
 ghost use Rattle.min_trace.specs.Chunk.{IsChunk};
 
 use crate::{Emu, Step};
@@ -62,9 +62,12 @@ fn additions(alloc: Global, n: usize) -> Result<Vec<u32>, AllocError> {
     Ok(words)
 }
 
-// The chunk, and whether it is the last; none where the run has come to another end.
-fn chunk_in(answer: Result<Step, RunEnd>) -> Option<(Chunk, bool)> {
-    match answer {
+// The next chunk, and whether it is the last; none where the run has come to another end.
+fn next(emu: &mut Emu) -> Option<(Chunk, bool)>
+    ensures chunk { IfSome result (λ r. IsChunk emu.old.image r.0) }
+    ensures image { emu.new.image ≡ emu.old.image }
+{
+    match emu.next_chunk() {
         Ok(Step::Chunk(chunk)) => Some((chunk, false)),
         Ok(Step::Last(chunk, _)) => Some((chunk, true)),
         Err(_) => None,
@@ -77,7 +80,7 @@ fn steps_of_chunks(alloc: Global, words: &[u32], limit: u32) -> Result<Vec<u32>,
     let mut emu = Emu::new(alloc, image, limit)?;
     let mut steps = Vec::new(alloc);
     for _ in 0..10 {
-        let (chunk, last) = chunk_in(emu.next_chunk()).ok_or("no chunk")?;
+        let (chunk, last) = next(&mut emu).ok_or("no chunk")?;
         steps.push(chunk.steps)?;
         if last {
             return Ok(steps);
@@ -114,15 +117,11 @@ fn last_comes_again(rt: HostRuntime) -> Result<(), Fail> {
     let image = image_of(rt.alloc(), &additions(rt.alloc(), 7)?)?.ok_or("no image")?;
     let mut emu = Emu::new(rt.alloc(), image, 9)?;
     for _ in 0..3 {
-        match emu.next_chunk() {
-            Ok(Step::Last(chunk, public)) => {
-                assert_eq!(&rt; chunk.number, 0);
-                assert_eq!(&rt; chunk.steps, 9);
-                assert_eq!(&rt; chunk.start.x[5], 0);
-                assert_eq!(&rt; public.exit, 0);
-            }
-            _ => assert!(&rt; false),
-        }
+        let (chunk, last) = next(&mut emu).ok_or("no chunk")?;
+        assert!(&rt; last);
+        assert_eq!(&rt; chunk.number, 0);
+        assert_eq!(&rt; chunk.steps, 9);
+        assert_eq!(&rt; chunk.start.x[5], 0);
     }
     Ok(())
 }
@@ -137,7 +136,7 @@ fn limit_comes_again(rt: HostRuntime) -> Result<(), Fail> {
     words.push(0)?;
     let image = image_of(rt.alloc(), &words)?.ok_or("no image")?;
     let mut emu = Emu::new(rt.alloc(), image, 1024)?;
-    let (chunk, last) = chunk_in(emu.next_chunk()).ok_or("no chunk")?;
+    let (chunk, last) = next(&mut emu).ok_or("no chunk")?;
     assert_eq!(&rt; chunk.steps, 1024);
     assert!(&rt; !last);
     assert_ends(&rt, &mut emu, RunEnd::StepLimit(1024));
@@ -155,7 +154,7 @@ fn fault_comes_again(rt: HostRuntime) -> Result<(), Fail> {
     Ok(())
 }
 
-// Each record of the chunk beside the plain machine.
+// Each record of the chunk beside the plain machine; how many they are.
 fn assert_replays(
     rt: &impl Abort,
     image: &Image,
@@ -165,10 +164,9 @@ fn assert_replays(
     requires { IsChunk image.now chunk.now }
 {
     let mut replay = Replay::new(image, chunk);
-    let mut steps = 0;
-    for _ in 0..1024 {
+    for step in 0..1024_u32 {
         let Some(record) = replay.next() else {
-            break;
+            return Ok(step);
         };
         assert_eq!(rt; record.pc, plain.cpu().pc);
         plain.step()?;
@@ -178,9 +176,25 @@ fn assert_replays(
         if let Some(pc) = record.next {
             assert_eq!(rt; pc, plain.cpu().pc);
         }
-        steps += 1;
     }
-    Ok(steps)
+    Ok(1024)
+}
+
+fn assert_chunk(
+    rt: &impl Abort,
+    image: &Image,
+    emu: &mut Emu,
+    plain: &mut PlainCpu,
+    steps: u32,
+) -> Result<(), Fail>
+    requires { emu.old.image ≡ image.now }
+    ensures { emu.new.image ≡ image.now }
+{
+    let (chunk, last) = next(emu).ok_or("no chunk")?;
+    assert_eq!(rt; chunk.steps, steps);
+    assert_eq!(rt; last, steps < 1024);
+    assert_eq!(rt; assert_replays(rt, image, &chunk, plain)?, steps);
+    Ok(())
 }
 
 #[test]
@@ -190,11 +204,7 @@ fn chunks_replay(rt: HostRuntime) -> Result<(), Fail> {
     let image = image_of(rt.alloc(), &words)?.ok_or("no image")?;
     let mut emu = Emu::new(rt.alloc(), Arc::try_clone(&image)?, 5000)?;
     let mut plain = PlainCpu::new(rt.alloc(), &image);
-    for steps in [1024, 380] {
-        let (chunk, last) = chunk_in(emu.next_chunk()).ok_or("no chunk")?;
-        assert_eq!(&rt; chunk.steps, steps);
-        assert_eq!(&rt; last, steps < 1024);
-        assert_eq!(&rt; assert_replays(&rt, &image, &chunk, &mut plain)?, steps);
-    }
+    assert_chunk(&rt, &image, &mut emu, &mut plain, 1024)?;
+    assert_chunk(&rt, &image, &mut emu, &mut plain, 380)?;
     Ok(())
 }

@@ -1,18 +1,15 @@
 -- The stages of `run`, read against its outcome.
-use Rattle.std.proofs.Common.{◌≡◌, ◌⊎◌, inl, inr, ℕ, ◌≤◌, ◌-◌, ◌^◌, List, [], ◌∷◌, ◌++◌, length, Option, Some, refl, sym, ap, ◌∙◌, subst}
+use Rattle.std.proofs.Common.{◌≡◌, inl, inr, ℕ, ◌-◌, ◌^◌, List, [], ◌∷◌, refl, sym, ap, ◌∙◌, subst}
 use Rattle.host_io.specs.World.{World, Asked, Opened}
 use Rattle.rv_model.specs.Image.{Img}
 use Rattle.rv_model.specs.Run.{End, Halted, Faulted, Limited, end_within}
-use Rattle.elf_load.specs.Loads.{Loads}
-use Rattle.elf_load.specs.Refusal.{Refused}
 use Rattle.elf_load.specs.declared.error.ElfErr.{ElfErr}
 use Rattle.zk_words.specs.declared.status.Which.TheVariants as files
 use Rattle.zk_words.specs.declared.status.Status.{Status}
 use Rattle.zk_words.specs.declared.status.Status.TheVariants as statuses
-use Rattle.zk_top.specs.declared.files.FileErr.{FileErr}
-use Rattle.zk_top.specs.Outcome.{Outcome, Contents, refused, of_run, with_input, WithFile, WithImage, IsRunOutcome}
-use Rattle.zk_top.specs.Parts.{Asks, AsksAtMost, IsNotRead, Stops, IsOnlyImage, IsOnlyRefusal, IsRefusal, stop_of}
-use Rattle.zk_top.proofs.Stages.{Begins, begins_exactly, file_begins, file_on, front_asked, refused_asks, stopped, asks_nothing}
+use Rattle.zk_top.specs.Outcome.{Outcome, Contents, refused, of_run, with_input, WithFile, WithImage}
+use Rattle.zk_top.specs.Parts.{Asks, Stops, IsOnlyImage, IsRefusal}
+use Rattle.zk_top.proofs.Stages.{Begins, begins_exactly, file_begins, front_asked, refused_asks}
 
 module _ (contents : Contents) (elf input : List ℕ) (steps : ℕ) where
   abbrev pub both : List Asked

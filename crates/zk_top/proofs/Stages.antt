@@ -1,14 +1,11 @@
 -- How the parts of a command join.
-use Rattle.std.proofs.Common.{rules, ◌≡◌, ◌⊎◌, inl, inr, ℕ, zero, suc, ◌<◌, ◌≤◌, ◌+◌, ◌-◌, ◌^◌, List, [], ◌∷◌, ◌++◌, length, take, min, Option, Some, None, Ok, Err, Result, Vec, Global, Bool, true, false, MatchBool, nat_le, refl, sym, ap, ◌∙◌, arith, subst, append_assoc, append-nil}
+use Rattle.std.proofs.Common.{◌≡◌, ◌⊎◌, inl, inr, ℕ, zero, suc, ◌<◌, ◌≤◌, ◌+◌, List, [], ◌∷◌, ◌++◌, length, take, min, Option, Some, None, Ok, Err, Result, Vec, Global, Bool, true, false, MatchBool, nat_le, refl, sym, ap, ◌∙◌, arith, subst, append_assoc, append-nil}
 use Rattle.std.proofs.Math.Seq.{take-length}
-use Rattle.host_io.specs.World.{World, Asked, Opened}
+use Rattle.host_io.specs.World.{World, Asked}
 use Rattle.host_io.specs.Calls.{HasReportedFront}
 use Rattle.rv_model.specs.Image.{Img}
 use Rattle.rv_model.specs.Run.{End, Halted, Faulted, Limited, end_within}
-use Rattle.elf_load.specs.declared.error.ElfErr.{ElfErr}
-use Rattle.zk_words.specs.Lines.{line_of}
 use Rattle.zk_words.specs.declared.status.Which.{Which}
-use Rattle.zk_words.specs.declared.status.Which.TheVariants as which_file
 use Rattle.zk_words.specs.declared.status.Status.{Status}
 use Rattle.zk_words.specs.declared.status.Status.TheVariants as statuses
 use Rattle.zk_top.specs.declared.files.FileErr.{FileErr}
@@ -36,6 +33,7 @@ early_report names status text start now after asks front = record {
   asked = ap (λ (w : World). w.asked) front.after ∙ asks.asked ∙ ap (λ (ns : List Asked). start.asked ++ ns) (sym (take-length names));
   bytes = front.count;
   reported = ap (λ (w : World). w.reported) front.after ∙ ap (λ (bs : List ℕ). bs ++ take front.count text) asks.reported;
+  quiet = λ fewer. absurd (omega (arith, fewer));
   contents = ap (λ (w : World). w.contents) front.after ∙ asks.contents;
 }
 
@@ -46,6 +44,7 @@ early_front o start now front = record {
   asked = front.asks.asked;
   bytes = 0;
   reported = front.asks.reported ∙ sym (append-nil start.reported);
+  quiet = λ fewer. refl;
   contents = front.asks.contents;
 }
 

@@ -1,5 +1,4 @@
-use Rattle.std.proofs.Common.{◌≡◌, Some, None, sym, ap, ◌∙◌}
-use Rattle.rv_word.specs.Is.{decoded}
+use Rattle.std.proofs.Common.{◌≡◌, Some, sym, ap, ◌∙◌}
 use Rattle.rv_model.specs.Image.{fetch}
 use Rattle.min_trace.specs.Record.{instr_of}
 use Rattle.rv_emu.specs.Emulator.{state_of, old_here}

@@ -1,4 +1,4 @@
-use Rattle.std.proofs.Common.{◌≡◌, ◌≤◌, inl, inr, refl, arith}
+use Rattle.std.proofs.Common.{inr, refl, arith}
 use Rattle.zk_top.proofs.Stages.{stops_early}
 use Rattle.zk_top.proofs.ending.refuse.Goals as goal
 

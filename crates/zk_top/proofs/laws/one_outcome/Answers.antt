@@ -8,7 +8,7 @@ use Rattle.elf_load.specs.declared.error.ElfErr.{ElfErr}
 use Rattle.zk_words.specs.declared.status.Which.{Which}
 use Rattle.zk_words.specs.declared.status.Which.TheVariants as files
 use Rattle.zk_words.specs.declared.status.Status.TheVariants as statuses
-use Rattle.zk_top.specs.Outcome.{Outcome, Contents, IsRunOutcome, WithFile, WithImage, of_run, refused, unanswered, with_input}
+use Rattle.zk_top.specs.Outcome.{Outcome, Contents, IsRunOutcome, WithFile, of_run, refused, unanswered, with_input}
 use Rattle.zk_top.proofs.Runs.{both, OnBytes, OnImage, OnFile}
 use Rattle.zk_top.proofs.laws.one_outcome.Goals as goal
 

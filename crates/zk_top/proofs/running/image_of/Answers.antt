@@ -1,4 +1,4 @@
-use Rattle.std.proofs.Common.{◌≡◌, ◌⊎◌, inl, inr, Ok, Err, ⊎_elim}
+use Rattle.std.proofs.Common.{⊎_elim}
 use Rattle.zk_top.proofs.running.image_of.Goals as goal
 
 pub returns-in-Ok-clause-only : goal.returns-in-Ok-clause-only

@@ -1,8 +1,8 @@
-use Rattle.std.proofs.Common.{◌≡◌, ◌+◌, Ok, Err, ap, sym, ◌∙◌, refl, arith}
+use Rattle.std.proofs.Common.{◌+◌, Ok, Err, ap, ◌∙◌}
 use Rattle.rv_model.specs.declared.answer.RunEnd.TheVariants as ends
 use Rattle.rv_emu.specs.declared.emu.Step.TheVariants as steps
 use Rattle.rv_emu.specs.Emulator.{state_of}
-use Rattle.rv_emu.proofs.Answers.{Found, fault_told, limit_told, last_told, whole_told, piece}
+use Rattle.rv_emu.proofs.Answers.{Found, fault_told, limit_told, last_told, piece}
 use Rattle.rv_emu.proofs.Once.{ends_by}
 use Rattle.rv_emu.proofs.emu.Emu.next_chunk.Goals as goal
 
