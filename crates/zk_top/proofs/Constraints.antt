@@ -74,9 +74,9 @@ tables_names names ns file o (inl p) = lines_names names ns (values_of (shape_of
 tables_names names ns file o (inr q) = ap (λ (p : Outcome). p.names) q.3
 
 -- a table file that was refused ends the command so
-refused_so : (names : List Asked) (ns : List Namespace) (file : List ℕ) (kind : TabKind) (at : ℕ) (o : Outcome) → IsOnlyFailure file (shape_of ns) kind at → OfTables names ns file o → o ≡ refused names (statuses.BadTables (record { kind = kind; at = at }))
+pub refused_so : (names : List Asked) (ns : List Namespace) (file : List ℕ) (kind : TabKind) (at : ℕ) (o : Outcome) → IsOnlyFailure file (shape_of ns) kind at → OfTables names ns file o → o ≡ refused names (statuses.BadTables (record { kind = kind; at = at }))
 refused_so names ns file kind at o only (inl p) = absurd (only.0 p.0 p.1)
-refused_so names ns file kind at o only (inr q) = 
+refused_so names ns file kind at o only (inr q) =
     let same = only.1 q.0 q.1 q.2 in
     subst (λ (k : TabKind). o ≡ refused names (statuses.BadTables (record { kind = k; at = at }))) same.0
     (subst (λ (n : ℕ). o ≡ refused names (statuses.BadTables (record { kind = q.0; at = n }))) same.1 q.3)

@@ -1,5 +1,5 @@
 -- What a command comes to, by its words and the contents of its files (docs/COMMANDS.md).
-use Rattle.std.specs.Prelude.{◌≡◌, ◌⊎◌, ℕ, ◌-◌, ◌^◌, nat_le, false, MatchBool, List, [], ◌∷◌, ◌++◌, length, map, flat_map, codes, decimal, Option, Some, None}
+use Rattle.std.specs.Prelude.{◌≡◌, ◌⊎◌, ℕ, ◌<◌, ◌-◌, ◌^◌, nat_le, false, MatchBool, List, [], ◌∷◌, ◌++◌, length, slice_index, map, flat_map, codes, decimal, Option, Some, None}
 use Rattle.hex.specs.Hex.{encode_lower}
 use Rattle.host_io.specs.World.{Asked, Opened}
 use Rattle.rv_model.specs.Image.{Img}
@@ -34,6 +34,10 @@ use Rattle.zk_words.specs.declared.status.Status.TheVariants as statuses
 -- the bytes behind each name, if it has a file
 abbrev pub Contents : Type 0
 Contents = List ℕ → Option (List ℕ)
+
+-- what every file holds is bytes
+abbrev pub AreBytes : Contents → Type 0
+AreBytes contents = (name : List ℕ) (file : List ℕ) → contents name ≡ Some file → (i : ℕ) → slice_index file i < 256
 
 pub record Outcome : Type 0 where
   -- the names that the command asks for, in order

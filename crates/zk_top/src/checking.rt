@@ -102,12 +102,7 @@ fn report_of_tables(alloc: Global, pil: &Pil, file: Vec<u8>) -> Result<Vec<u8>, 
 }
 
 // The work of the command up to its report.
-fn work<H: Host>(
-    alloc: Global,
-    host: &mut H,
-    pil: &str,
-    tables: &str,
-) -> Result<Vec<u8>, Status>
+fn work<H: Host>(alloc: Global, host: &mut H, pil: &str, tables: &str) -> Result<Vec<u8>, Status>
     ensures told { H.tells host.old → H.tells host.new }
     ensures leads { H.tells host.old → (o : Outcome) → IsPilOutcome (H.world host.old).contents pil.now tables.now o → Leads o result (H.world host.old) (H.world host.new) }
     ensures later { H.faults host.old ≤ H.faults host.new }

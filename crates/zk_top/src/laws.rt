@@ -1,8 +1,10 @@
 //! What holds of every outcome.
 ghost use Rattle.std.specs.Prelude.{◌≡◌, ℕ, List};
-ghost use Rattle.zk_top.specs.Outcome.{Outcome, Contents, IsRunOutcome};
+ghost use Rattle.zk_top.specs.Outcome.{Outcome, Contents, AreBytes, IsRunOutcome, IsPilOutcome};
 
+use bus_check::one_verdict;
 use elf_load::one_answer;
+use tab_file::laws::{one_text, reads_or_fails};
 
 /// Whatever the files hold, `run` comes to one outcome and no other.
 pub fn one_outcome()
@@ -10,4 +12,15 @@ pub fn one_outcome()
     ensures one { (contents : Contents) (elf input : List ℕ) (steps : ℕ) (o p : Outcome) → IsRunOutcome contents elf input steps o → IsRunOutcome contents elf input steps p → o ≡ p }
 {
     one_answer();
+}
+
+/// Whatever the files hold, `pil` comes to one outcome and no other.
+pub fn one_pil_outcome()
+    ensures some { (contents : Contents) (pil tables : List ℕ) → AreBytes contents → (o : Outcome) × IsPilOutcome contents pil tables o }
+    ensures one { (contents : Contents) (pil tables : List ℕ) (o p : Outcome) → IsPilOutcome contents pil tables o → IsPilOutcome contents pil tables p → o ≡ p }
+{
+    pil_text::one_answer();
+    one_verdict();
+    one_text();
+    reads_or_fails();
 }

@@ -10,9 +10,11 @@ mod laws;
 mod report;
 mod running;
 #[cfg(test)]
+mod small_texts;
+#[cfg(test)]
 mod tests;
 
 pub use checking::pil_call;
 pub use commands::top;
-pub use laws::one_outcome;
+pub use laws::{one_outcome, one_pil_outcome};
 pub use running::run_call;

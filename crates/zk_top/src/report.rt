@@ -59,11 +59,7 @@ fn push_publics<C: Columns>(
 }
 
 // Writes the line of an item, where it is a public.
-fn push_public<C: Columns>(
-    columns: &C,
-    item: &Item,
-    text: &mut Vec<u8>,
-) -> Result<(), AllocError>
+fn push_public<C: Columns>(columns: &C, item: &Item, text: &mut Vec<u8>) -> Result<(), AllocError>
     requires { IsPublicIn (C.values columns.now) (line item.now) }
     ensures { OnOk result (text.new.items ≡ text.old.items ++ public_line (C.values columns.now) (line item.now)) }
 {

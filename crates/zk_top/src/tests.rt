@@ -2,7 +2,6 @@ use crate::top;
 use host_io::{HostCall, MemHost};
 use std::alloc::{AllocError, Global};
 use std::test::Fail;
-use zk_words::Status;
 
 // An ELF file with one program header and no code: the code stands behind it, at byte 120.
 const HEADERS: [u8; 120] = [
@@ -41,7 +40,7 @@ fn host(alloc: Global, elf: Vec<u8>, failing: Vec<(HostCall, u64)>) -> Result<Me
     Ok(MemHost::new(alloc, files, 100, failing))
 }
 
-fn words(alloc: Global, line: &str) -> Result<Vec<String>, AllocError> {
+pub fn words(alloc: Global, line: &str) -> Result<Vec<String>, AllocError> {
     let mut words = Vec::new(alloc);
     for word in line.split(' ') {
         words.push(String::from_str(alloc, word)?)?;
@@ -98,7 +97,7 @@ fn a_run_reports_its_steps_and_output(rt: HostRuntime) -> Result<(), Fail> {
     let alloc = rt.alloc();
     let mut host = host(alloc, file(alloc, &EXIT_SEVEN, (7, 0))?, Vec::new(alloc))?;
     let status = top(alloc, &words(alloc, "run E I 3")?, &mut host);
-    assert_eq!(rt; status, Status::Done);
+    assert_eq!(rt; status.code(), 0);
     let mut report = Vec::from_slice(alloc, b"steps 3\nexit 7\noutput ")?;
     for _ in 0..512 {
         report.push(b'0')?;
@@ -160,6 +159,8 @@ fn segments_that_overlap_or_are_too_large_are_reported(rt: HostRuntime) -> Resul
 fn other_endings_are_reported(rt: HostRuntime) -> Result<(), Fail> {
     let alloc = rt.alloc();
     for (line, code, report) in [
+        ("pil missing I", 9, ""),
+        ("pil E", 2, "bad words\n"),
         ("run E I 2", 5, "step limit 2\n"),
         ("run E I 03", 2, "bad words\n"),
         ("run E missing 3", 9, ""),
@@ -191,8 +192,34 @@ fn a_failing_host_ends_the_command(rt: HostRuntime) -> Result<(), Fail> {
         failing.push((call, number))?;
         let mut host = host(alloc, file(alloc, &EXIT_SEVEN, (7, 0))?, failing)?;
         let status = top(alloc, &words(alloc, "run E I 3")?, &mut host);
-        assert_eq!(rt; status, Status::HostFault);
+        assert_eq!(rt; status.code(), 9);
         assert_eq!(rt; host.reported().len(), reported);
+    }
+    Ok(())
+}
+
+#[test]
+fn a_text_has_a_limit(rt: HostRuntime) -> Result<(), Fail> {
+    let alloc = rt.alloc();
+    let mut bytes = Vec::new(alloc);
+    bytes.resize((1 << 20) + 1, b' ')?;
+    let mut host = host(alloc, bytes, Vec::new(alloc))?;
+    let status = top(alloc, &words(alloc, "pil E I")?, &mut host);
+    assert_eq!(rt; status.code(), 8);
+    assert_eq!(rt; host.reported(), b"too large pil\n".as_slice());
+    Ok(())
+}
+
+#[test]
+fn a_failing_host_ends_the_check(rt: HostRuntime) -> Result<(), Fail> {
+    let alloc = rt.alloc();
+    for (call, number) in [(HostCall::Open, 0), (HostCall::Read, 1)] {
+        let mut failing = Vec::new(alloc);
+        failing.push((call, number))?;
+        let mut host = host(alloc, file(alloc, &EXIT_SEVEN, (7, 0))?, failing)?;
+        let status = top(alloc, &words(alloc, "pil E I")?, &mut host);
+        assert_eq!(rt; status.code(), 9);
+        assert_eq!(rt; host.reported().len(), 0);
     }
     Ok(())
 }

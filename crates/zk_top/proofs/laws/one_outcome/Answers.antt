@@ -1,45 +1,27 @@
-use Rattle.std.proofs.Common.{◌≡◌, ◌⊎◌, inl, inr, ℕ, ◌-◌, ◌^◌, List, [], ◌∷◌, length, Option, Some, None, Bool, true, false, MatchBool, nat_le, refl, sym, ap, ◌∙◌, subst}
+use Rattle.std.proofs.Common.{◌≡◌, ◌⊎◌, inl, inr, ℕ, ◌-◌, ◌^◌, List, [], ◌∷◌, refl, sym, ap, ◌∙◌, subst}
 use Rattle.host_io.specs.World.{Asked, Opened}
 use Rattle.rv_model.specs.Image.{Img}
 use Rattle.rv_model.specs.Run.{end_within}
 use Rattle.elf_load.specs.Loads.{Loads}
 use Rattle.elf_load.specs.Refusal.{Refused}
 use Rattle.elf_load.specs.declared.error.ElfErr.{ElfErr}
-use Rattle.zk_words.specs.declared.status.Which.{Which}
 use Rattle.zk_words.specs.declared.status.Which.TheVariants as files
 use Rattle.zk_words.specs.declared.status.Status.TheVariants as statuses
-use Rattle.zk_top.specs.Outcome.{Outcome, Contents, IsRunOutcome, WithFile, of_run, refused, unanswered, with_input}
+use Rattle.zk_top.specs.Outcome.{Outcome, Contents, IsRunOutcome, of_run, refused, with_input}
+use Rattle.zk_top.proofs.FileStages.{some_with_file, one_with_file}
 use Rattle.zk_top.proofs.Runs.{both, OnBytes, OnImage, OnFile}
 use Rattle.zk_top.proofs.laws.one_outcome.Goals as goal
 
--- some outcome, where what follows has one
-some_with_file : (names : List Asked) (x : Option (List ℕ)) (limit : ℕ) (which : Which) (On : List ℕ → Outcome → Type 0) → ((bytes : List ℕ) → (o : Outcome) × On bytes o) → (o : Outcome) × WithFile names x limit which On o
-some_with_file names None limit which On on = (unanswered names, refl)
-some_with_file names (Some bytes) limit which On on = by (nat_le (length bytes) limit)
-  where
-    by : (b : Bool) → (o : Outcome) × MatchBool b (On bytes o) (o ≡ refused names (statuses.TooLarge which))
-    by true = on bytes
-    by false = (refused names (statuses.TooLarge which), refl)
-
--- and only one, where what follows has only one
-one_with_file : (names : List Asked) (x : Option (List ℕ)) (limit : ℕ) (which : Which) (On : List ℕ → Outcome → Type 0) → ((bytes : List ℕ) (o p : Outcome) → On bytes o → On bytes p → o ≡ p) → (o p : Outcome) → WithFile names x limit which On o → WithFile names x limit which On p → o ≡ p
-one_with_file names None limit which On on o p h k = h ∙ sym k
-one_with_file names (Some bytes) limit which On on o p h k = by (nat_le (length bytes) limit) h k
-  where
-    by : (b : Bool) → MatchBool b (On bytes o) (o ≡ refused names (statuses.TooLarge which)) → MatchBool b (On bytes p) (p ≡ refused names (statuses.TooLarge which)) → o ≡ p
-    by true h' k' = on bytes o p h' k'
-    by false h' k' = h' ∙ sym k'
-
 some_image : (contents : Contents) (elf input : List ℕ) (steps : ℕ) (file : List ℕ) → ((image : Img) × Loads file [] image) ⊎ ((e : ElfErr) × Refused file e) → (o : Outcome) × OnFile contents elf input steps file o
 some_image contents elf input steps file (inl p) =
-    let rest = some_with_file (both contents elf input steps) (contents input) (2 ^ 24 - 8) files.Input (OnBytes contents elf input steps p.0) (λ bytes. (of_run (both contents elf input steps) steps (end_within (with_input p.0 bytes) steps), refl)) in
+    let rest = some_with_file (both contents elf input steps) (contents input) (2 ^ 24 - 8) files.Input (OnBytes contents elf input steps p.0) (λ bytes told. (of_run (both contents elf input steps) steps (end_within (with_input p.0 bytes) steps), refl)) in
     (rest.0, inl (p.0, p.1, rest.1))
 some_image contents elf input steps file (inr q) = (refused (Opened elf ∷ []) (statuses.BadElf q.0), inr (q.0, q.1, refl))
 
 pub returns-clause-some : goal.returns-clause-some
 unfolding IsRunOutcome
 returns-clause-some c = λ contents elf input steps.
-    some_with_file (Opened elf ∷ []) (contents elf) (2 ^ 26) files.Elf (OnFile contents elf input steps) (λ file. some_image contents elf input steps file (c.one_answer.ensures.some file []))
+    some_with_file (Opened elf ∷ []) (contents elf) (2 ^ 26) files.Elf (OnFile contents elf input steps) (λ file told. some_image contents elf input steps file (c.one_answer.ensures.some file []))
 
 pub returns-clause-one : goal.returns-clause-one
 unfolding IsRunOutcome
