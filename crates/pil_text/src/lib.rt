@@ -7,6 +7,8 @@ mod laws;
 mod reading;
 mod resolve;
 mod rules;
+#[cfg(test)]
+mod tests;
 
 pub use error::{PilErr, PilErrKind};
 pub use laws::one_answer;
