@@ -1,0 +1,4 @@
+pub mod Statements
+pub mod Printed
+pub mod Tables
+pub mod Levels
