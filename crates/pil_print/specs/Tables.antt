@@ -1,14 +1,10 @@
 -- What is kept of a text while it is printed: where its names are found.
-use Rattle.std.specs.Prelude.{ℕ, ◌+◌, ◌<◌, ◌≡◌, List, [], ◌∷◌, map, length, Some, slice_get, sum_by, Unit, Option, None, Bool, true, false}
-use Rattle.pil_syntax.specs.Grammar.{Level, expr, term, fact}
-use Rattle.pil_ast.specs.declared.tree.Item.{Item}
+use Rattle.std.specs.Prelude.{ℕ, ◌+◌, ◌≡◌, List, [], ◌∷◌, map, length, Some, slice_get}
 use Rattle.pil_ast.specs.Term as ast
 use Rattle.pil_ast.specs.Tree.{line, namespace}
-use Rattle.pil_ast.specs.Sound.{Each}
 use Rattle.pil_print.specs.Statements.{declared, published}
 use Rattle.pil_print.specs.declared.tables.Columns.{Columns}
 use Rattle.pil_print.specs.declared.tables.Names.{Names}
-use Rattle.pil_print.specs.declared.expressions.Level as L
 
 -- the number of the first column of each item, where those before have n columns
 abbrev pub firsts_from : ℕ → List ast.Line → List ℕ

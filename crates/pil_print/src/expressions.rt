@@ -8,7 +8,7 @@ ghost use Rattle.pil_print.specs.Printed.{index_text, next_text, reference_text,
 ghost use Rattle.pil_print.specs.Tables.{IsNames, text_names};
 ghost use Rattle.pil_print.specs.Levels.{level_of, IsPrintable, opened, closed, groups_sum as groups_sum_at, groups_product as groups_product_at, IsColumn, IsItemNumber};
 
-use crate::tables::{Names, Spot};
+use crate::tables::Names;
 use itoa::Buffer;
 use pil_ast::{Expr, Item};
 use std::alloc::AllocError;
@@ -97,18 +97,18 @@ pub fn write_index(number: Option<u32>, text: &mut Vec<u8>) -> Result<(), AllocE
 }
 
 /// The index with which the column stands, where its item is an array.
-fn index_of(spot: Spot) -> Option<u32>
-    ensures { option_map numeral result ≡ index_in (line spot.item.now) spot.index }
+fn index_of(item: &Item, index: u32) -> Option<u32>
+    ensures { option_map numeral result ≡ index_in (line item.now) index }
 {
-    match spot.item {
+    match item {
         Item::Constant {
             name: _,
             len: Some(_),
-        } => Some(spot.index),
+        } => Some(index),
         Item::Commit {
             name: _,
             len: Some(_),
-        } => Some(spot.index),
+        } => Some(index),
         _ => None,
     }
 }
@@ -140,7 +140,8 @@ fn write_reference(
     text.extend_from_slice(b".")?;
     write_name(item, text)?;
     write_index(index, text)?;
-    write_mark(next, text)
+    write_mark(next, text)?;
+    Ok(())
 }
 
 /// Writes a column of the namespace `space`.
@@ -156,7 +157,14 @@ pub fn write_column(
     ensures { OnOk result (text.new.items ≡ text.old.items ++ reference_text (column_reference (text_names names.now) space column next)) }
 {
     let spot = names.columns.as_slice()[space as usize].spot(column);
-    write_reference(names, space, spot.item, index_of(spot), next, text)
+    write_reference(
+        names,
+        space,
+        spot.item,
+        index_of(spot.item, spot.index),
+        next,
+        text,
+    )
 }
 
 /// Writes the intermediate that is this item of the namespace `space`.
@@ -181,7 +189,8 @@ fn write_public(names: &Names, number: u32, text: &mut Vec<u8>) -> Result<(), Al
     ensures { OnOk result (text.new.items ≡ text.old.items ++ (codes ":" ++ name_of (item_at (published (text_names names.now)) number))) }
 {
     text.extend_from_slice(b":")?;
-    write_name(names.publics.as_slice()[number as usize], text)
+    write_name(names.publics.as_slice()[number as usize], text)?;
+    Ok(())
 }
 
 /// Writes an expression with the parentheses that it needs at a place of this level.
@@ -206,28 +215,32 @@ pub fn write_expr(
         Expr::Public(number) => write_public(names, *number, text),
         Expr::Neg(a) => {
             text.extend_from_slice(b"-")?;
-            write_expr(names, a.get(), Level::Fact, text)
+            write_expr(names, a.get(), Level::Fact, text)?;
+            Ok(())
         }
         Expr::Add(a, b) => {
             open(groups_sum(level), text)?;
             write_expr(names, a.get(), Level::Expr, text)?;
             text.extend_from_slice(b" + ")?;
             write_expr(names, b.get(), Level::Term, text)?;
-            close(groups_sum(level), text)
+            close(groups_sum(level), text)?;
+            Ok(())
         }
         Expr::Sub(a, b) => {
             open(groups_sum(level), text)?;
             write_expr(names, a.get(), Level::Expr, text)?;
             text.extend_from_slice(b" - ")?;
             write_expr(names, b.get(), Level::Term, text)?;
-            close(groups_sum(level), text)
+            close(groups_sum(level), text)?;
+            Ok(())
         }
         Expr::Mul(a, b) => {
             open(groups_product(level), text)?;
             write_expr(names, a.get(), Level::Term, text)?;
             text.extend_from_slice(b" * ")?;
             write_expr(names, b.get(), Level::Fact, text)?;
-            close(groups_product(level), text)
+            close(groups_product(level), text)?;
+            Ok(())
         }
     }
 }

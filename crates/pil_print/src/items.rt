@@ -1,5 +1,5 @@
 //! The items of a namespace, each on a line of its own.
-ghost use Rattle.std.specs.Prelude.{◌≡◌, ◌<◌, ◌++◌, OnOk, map, All, codes, length, flat_map};
+ghost use Rattle.std.specs.Prelude.{◌≡◌, [], ◌++◌, OnOk, map, All, codes, decimal, flat_map};
 ghost use Rattle.pil_ast.specs.Tree.{term, tuples, line};
 ghost use Rattle.pil_ast.specs.Term.{bus, constant, commit, inter, published, identity, lookup};
 ghost use Rattle.pil_print.specs.Statements.{statement};
@@ -31,6 +31,15 @@ fn write_inter(
     write_expr(names, value, Level::Expr, text)
 }
 
+/// Writes `(row)`.
+fn write_row(row: u32, text: &mut Vec<u8>) -> Result<(), AllocError>
+    ensures { OnOk result (text.new.items ≡ text.old.items ++ (codes "(" ++ (decimal row ++ codes ")"))) }
+{
+    text.extend_from_slice(b"(")?;
+    write_number(u64::from(row), text)?;
+    text.extend_from_slice(b")")
+}
+
 /// Writes `public name = column(row)`.
 fn write_public(
     names: &Names,
@@ -48,9 +57,7 @@ fn write_public(
     text.extend_from_slice(name.as_slice())?;
     text.extend_from_slice(b" = ")?;
     write_column(names, space, column, false, text)?;
-    text.extend_from_slice(b"(")?;
-    write_number(u64::from(row), text)?;
-    text.extend_from_slice(b")")
+    write_row(row, text)
 }
 
 /// Writes `left = right`.
@@ -95,8 +102,8 @@ fn write_bus(
     text: &mut Vec<u8>,
 ) -> Result<(), AllocError>
     requires names { IsNames names.now }
-    requires left { All (λ l. IsPrintableList (text_names names.now) (tuples l)) left.now }
-    requires right { All (λ l. IsPrintableList (text_names names.now) (tuples l)) right.now }
+    requires left { All (IsPrintableList (text_names names.now)) (map tuples left.now) }
+    requires right { All (IsPrintableList (text_names names.now)) (map tuples right.now) }
     ensures { OnOk result (text.new.items ≡ text.old.items ++ sentence_text (statement (text_names names.now) (bus (map tuples left.now) (map tuples right.now)))) }
 {
     write_lists(names, left, text)?;
@@ -105,30 +112,18 @@ fn write_bus(
 }
 
 /// Writes `pol constant name[length]`.
-fn write_constant(
-    names: &Names,
-    name: &Items<u8>,
-    len: Option<u32>,
-    text: &mut Vec<u8>,
-) -> Result<(), AllocError>
-    ensures { OnOk result (text.new.items ≡ text.old.items ++ sentence_text (statement (text_names names.now) (constant name.now len))) }
+fn write_constant(name: &Items<u8>, len: Option<u32>, text: &mut Vec<u8>) -> Result<(), AllocError>
+    ensures { OnOk result (text.new.items ≡ text.old.items ++ sentence_text (statement [] (constant name.now len))) }
 {
-    let _ = names;
     text.extend_from_slice(b"pol constant ")?;
     text.extend_from_slice(name.as_slice())?;
     write_index(len, text)
 }
 
 /// Writes `pol commit name[length]`.
-fn write_commit(
-    names: &Names,
-    name: &Items<u8>,
-    len: Option<u32>,
-    text: &mut Vec<u8>,
-) -> Result<(), AllocError>
-    ensures { OnOk result (text.new.items ≡ text.old.items ++ sentence_text (statement (text_names names.now) (commit name.now len))) }
+fn write_commit(name: &Items<u8>, len: Option<u32>, text: &mut Vec<u8>) -> Result<(), AllocError>
+    ensures { OnOk result (text.new.items ≡ text.old.items ++ sentence_text (statement [] (commit name.now len))) }
 {
-    let _ = names;
     text.extend_from_slice(b"pol commit ")?;
     text.extend_from_slice(name.as_slice())?;
     write_index(len, text)
@@ -141,8 +136,8 @@ fn write_statement(names: &Names, item: &Item, text: &mut Vec<u8>) -> Result<(),
     ensures { OnOk result (text.new.items ≡ text.old.items ++ sentence_text (statement (text_names names.now) (line item.now))) }
 {
     match item {
-        Item::Constant { name, len } => write_constant(names, name, *len, text),
-        Item::Commit { name, len } => write_commit(names, name, *len, text),
+        Item::Constant { name, len } => write_constant(name, *len, text),
+        Item::Commit { name, len } => write_commit(name, *len, text),
         Item::Inter { name, value } => write_inter(names, name, value, text),
         Item::Public {
             name,

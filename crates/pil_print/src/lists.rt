@@ -1,5 +1,5 @@
 //! Lists with their selectors.
-ghost use Rattle.std.specs.Prelude.{◌≡◌, ◌++◌, OnOk, map, All, codes, option_map, Some};
+ghost use Rattle.std.specs.Prelude.{◌≡◌, ◌++◌, [], cond, OnOk, map, All, codes, option_map, Some};
 ghost use Rattle.pil_ast.specs.Tree.{term, tuples};
 ghost use Rattle.pil_print.specs.Statements.{expression, selector as selector_in, tuple};
 ghost use Rattle.pil_print.specs.Printed.{term_text, filter_text, separated, tuple_text};
@@ -11,6 +11,17 @@ use crate::tables::Names;
 use pil_ast::{Expr, List};
 use std::alloc::AllocError;
 
+/// Writes what stands between two elements, but nothing before the first.
+fn separate(first: bool, between: &[u8], text: &mut Vec<u8>) -> Result<(), AllocError>
+    ensures { OnOk result (text.new.items ≡ text.old.items ++ cond first [] between.now) }
+{
+    if first {
+        Ok(())
+    } else {
+        text.extend_from_slice(between)
+    }
+}
+
 /// Writes expressions with `, ` between.
 fn write_exprs(names: &Names, exprs: &[Expr], text: &mut Vec<u8>) -> Result<(), AllocError>
     requires names { IsNames names.now }
@@ -19,9 +30,7 @@ fn write_exprs(names: &Names, exprs: &[Expr], text: &mut Vec<u8>) -> Result<(), 
 {
     let mut first = true;
     for expr in exprs {
-        if !first {
-            text.extend_from_slice(b", ")?;
-        }
+        separate(first, b", ", text)?;
         write_expr(names, expr, Level::Expr, text)?;
         first = false;
     }
@@ -48,7 +57,11 @@ fn write_selector(names: &Names, selector: &Expr, text: &mut Vec<u8>) -> Result<
 }
 
 /// Writes a list's selector, where it has one.
-fn write_filter(names: &Names, selector: &Option<Expr>, text: &mut Vec<u8>) -> Result<(), AllocError>
+fn write_filter(
+    names: &Names,
+    selector: &Option<Expr>,
+    text: &mut Vec<u8>,
+) -> Result<(), AllocError>
     requires names { IsNames names.now }
     requires printable { IsSelector (text_names names.now) (option_map term selector.now) }
     ensures { OnOk result (text.new.items ≡ text.old.items ++ filter_text (selector_in (text_names names.now) (option_map term selector.now))) }
@@ -79,9 +92,7 @@ pub fn write_lists(names: &Names, lists: &[List], text: &mut Vec<u8>) -> Result<
 {
     let mut first = true;
     for list in lists {
-        if !first {
-            text.extend_from_slice(b" + ")?;
-        }
+        separate(first, b" + ", text)?;
         write_list(names, list, text)?;
         first = false;
     }

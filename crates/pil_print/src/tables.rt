@@ -152,7 +152,7 @@ pub struct Spot<'a> {
 impl<'a> Columns<'a> {
     /// The column with this number. It takes time in proportion to the logarithm of the number of items.
     pub fn spot(&self, column: u32) -> Spot<'a>
-        requires table { IsTable (map (λ i. line i.now) self.now.items) self.now }
+        requires table { self.now.firsts ≡ firsts_from 0 (map (λ i. line i.now) self.now.items) }
         requires within { column < width (map (λ i. line i.now) self.now.items) }
         ensures item { line result.item.now ≡ (spot_in (map (λ i. line i.now) self.now.items) column).item }
         ensures index { result.index ≡ (spot_in (map (λ i. line i.now) self.now.items) column).index }
