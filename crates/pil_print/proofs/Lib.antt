@@ -1,3 +1,4 @@
 pub mod Texts
 pub mod Starts
 pub mod Printable
+pub mod Lexed

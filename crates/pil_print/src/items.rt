@@ -155,6 +155,13 @@ fn write_statement(names: &Names, item: &Item, text: &mut Vec<u8>) -> Result<(),
     }
 }
 
+/// Ends a statement and its line.
+fn end_line(text: &mut Vec<u8>) -> Result<(), AllocError>
+    ensures { OnOk result (text.new.items ≡ text.old.items ++ codes ";\n") }
+{
+    text.extend_from_slice(b";\n")
+}
+
 /// Writes items, each on a line of its own.
 pub fn write_items(names: &Names, items: &[Item], text: &mut Vec<u8>) -> Result<(), AllocError>
     requires names { IsNames names.now }
@@ -163,7 +170,7 @@ pub fn write_items(names: &Names, items: &[Item], text: &mut Vec<u8>) -> Result<
 {
     for item in items {
         write_statement(names, item, text)?;
-        text.extend_from_slice(b";\n")?;
+        end_line(text)?;
     }
     Ok(())
 }

@@ -3,8 +3,10 @@
 
 mod expressions;
 mod items;
+mod laws;
 mod lists;
 mod printing;
 mod tables;
 
+pub use laws::printed_tokens;
 pub use printing::print;

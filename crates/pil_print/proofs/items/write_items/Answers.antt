@@ -14,5 +14,5 @@ loop-item-preserved c =
     let i = c.loop-item.item-index in
     let x = c.item-item.result in
     put c.args.text.now.items (flat_map line_text (map (statement ns) (map line (take i xs)))) (sentence_text (statement ns (line x))) (codes ";\n") _ _ _
-    c.loop-item.invariant c.in_ok-write_statement.ensures c.in_ok-extend_from_slice.ensures.items
+    c.loop-item.invariant c.in_ok-write_statement.ensures c.in_ok-end_line.ensures
     ∙ ap (λ (s : List ℕ). c.args.text.now.items ++ s) (sym (flat-more line_text (statement ns) line xs i x (omega arith) c.item-item.is))

@@ -1,0 +1,8 @@
+//! What is true of every printed text.
+ghost use Rattle.pil_print.specs.Laws.{IsReadAsTokens};
+
+/// The law of printed tokens: where the names of statements are names and their numbers are below the
+/// order of the field, their text has their tokens and no others. The call computes nothing.
+pub fn printed_tokens()
+    ensures tokens { IsReadAsTokens }
+{}
