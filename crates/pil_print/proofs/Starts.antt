@@ -62,7 +62,7 @@ sum_by-append f [] ys = omega (arith)
 sum_by-append f (x ∷ xs) ys = omega (arith, sum_by-cons f x xs, sum_by-cons f x (xs ++ ys), sum_by-append f xs ys)
 
 -- the items that declare columns have all of them
-width-parts : (ls : List Line) → sum_by columns_of (filter is_constant ls) + sum_by columns_of (filter is_commit ls) ≡ sum_by columns_of ls
+pub width-parts : (ls : List Line) → sum_by columns_of (filter is_constant ls) + sum_by columns_of (filter is_commit ls) ≡ sum_by columns_of ls
 width-parts [] = refl
 width-parts (constant x n ∷ ls) = omega (arith, sum_by-cons columns_of (constant x n) ls, sum_by-cons columns_of (constant x n) (filter is_constant ls), width-parts ls)
 width-parts (commit x n ∷ ls) = omega (arith, sum_by-cons columns_of (commit x n) ls, sum_by-cons columns_of (commit x n) (filter is_commit ls), width-parts ls)
@@ -84,10 +84,10 @@ firsts-above n [] i l = absurd (omega arith)
 firsts-above n (x ∷ ls) zero l = omega arith
 firsts-above n (x ∷ ls) (suc i) l = omega (arith, firsts-above (n + columns_of x) ls i (omega arith))
 
-spot-here : (l : Line) (ls : List Line) (k : ℕ) → k < columns_of l → spot_in (l ∷ ls) k ≡ record { item = l; index = k }
+pub spot-here : (l : Line) (ls : List Line) (k : ℕ) → k < columns_of l → spot_in (l ∷ ls) k ≡ record { item = l; index = k }
 spot-here l ls k h = grind (arith, common_steps)
 
-spot-past : (l : Line) (ls : List Line) (k : ℕ) → columns_of l ≤ k → spot_in (l ∷ ls) k ≡ spot_in ls (k - columns_of l)
+pub spot-past : (l : Line) (ls : List Line) (k : ℕ) → columns_of l ≤ k → spot_in (l ∷ ls) k ≡ spot_in ls (k - columns_of l)
 spot-past l ls k h = grind (arith, common_steps)
 
 -- the last item whose first column isn't past a column declares it
