@@ -4,3 +4,6 @@ pub mod Printable
 pub mod Lexed
 pub mod Outlines
 pub mod Rereads
+pub mod Meanings
+pub mod Roundtrip
+pub mod Unbroken

@@ -111,7 +111,7 @@ stands-snoc x (b ∷ bs) y h = more (bytes_eq b.name x) (stands-snoc x bs y) h
     more true f e = let no : ⊥ = cc in absurd no
     more false f e = f e
 
-not-there : (b : Bool) (at : ℕ) → cond b (at ∷ []) [] ≡ [] → b ≡ false
+pub not-there : (b : Bool) (at : ℕ) → cond b (at ∷ []) [] ≡ [] → b ≡ false
 not-there true at e = let no : ⊥ = cc in absurd no
 not-there false at e = refl
 
@@ -172,7 +172,7 @@ names-of-items ns (identity s a b ∷ ls) = names-of-items ns ls
 names-of-items ns (lookup a b ∷ ls) = names-of-items ns ls
 names-of-items ns (bus a b ∷ ls) = names-of-items ns ls
 
-names-of-publics : (ns ms : List Namespace) → public_names (map (home ns) ms) ≡ map (λ l. ident (name_of l)) (published_of ms)
+pub names-of-publics : (ns ms : List Namespace) → public_names (map (home ns) ms) ≡ map (λ l. ident (name_of l)) (published_of ms)
 names-of-publics ns [] = refl
 names-of-publics ns (m ∷ ms) =
     ap (λ xs. xs ++ public_names (map (home ns) ms)) (names-of-items ns m.items)

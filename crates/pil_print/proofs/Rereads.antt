@@ -27,7 +27,7 @@ marked-again : (b : Bool) → is_some (mark_of b) ≡ b
 marked-again true = refl
 marked-again false = refl
 
-joined-same : {X : Type 0} (a b c d : List X) → a ≡ c → b ≡ d → a ++ b ≡ c ++ d
+pub joined-same : {X : Type 0} (a b c d : List X) → a ≡ c → b ≡ d → a ++ b ≡ c ++ d
 joined-same a b c d p q = ap (λ x. x ++ b) p ∙ ap (λ x. c ++ x) q
 
 cons-same : {X : Type 0} (a c : X) (b d : List X) → a ≡ c → b ≡ d → a ∷ b ≡ c ∷ d
@@ -105,7 +105,7 @@ module _ (ns : List Namespace) (named' : IsNamed ns) where
   commit-again m j k n ls (ast.lookup x y) b e s l = let no : ⊥ = cc in absurd no
   commit-again m j k n ls (ast.bus x y) b e s l = let no : ⊥ = cc in absurd no
 
-  constant-polynomial : (item : Line) → is_constant item ≡ true → IsPolynomial item
+  pub constant-polynomial : (item : Line) → is_constant item ≡ true → IsPolynomial item
   constant-polynomial (ast.constant x w) e = tt
   constant-polynomial (ast.commit x w) e = tt
   constant-polynomial (ast.inter x w) e = tt
@@ -114,7 +114,7 @@ module _ (ns : List Namespace) (named' : IsNamed ns) where
   constant-polynomial (ast.lookup x y) e = let no : ⊥ = cc in absurd no
   constant-polynomial (ast.bus x y) e = let no : ⊥ = cc in absurd no
 
-  commit-polynomial : (item : Line) → is_commit item ≡ true → IsPolynomial item
+  pub commit-polynomial : (item : Line) → is_commit item ≡ true → IsPolynomial item
   commit-polynomial (ast.constant x w) e = tt
   commit-polynomial (ast.commit x w) e = tt
   commit-polynomial (ast.inter x w) e = tt
@@ -123,7 +123,7 @@ module _ (ns : List Namespace) (named' : IsNamed ns) where
   commit-polynomial (ast.lookup x y) e = let no : ⊥ = cc in absurd no
   commit-polynomial (ast.bus x y) e = let no : ⊥ = cc in absurd no
 
-  column-again : (s m k : ℕ) (b : Bool) → m < length ns → k < width (space_at ns m).items → read_reference (outline ns) s (column_reference ns m k b) ≡ ast.col m k b
+  pub column-again : (s m k : ℕ) (b : Bool) → m < length ns → k < width (space_at ns m).items → read_reference (outline ns) s (column_reference ns m k b) ≡ ast.col m k b
   column-again s m k b l h = elim (column-place (space_at ns m).items k h) [
     | inl at ↦ of-constant at
     | inr at ↦ of-commit at.0 at.1
@@ -142,7 +142,7 @@ module _ (ns : List Namespace) (named' : IsNamed ns) where
           named-again s m at.place spot.item (index_in spot.item spot.index) b l at.within (commit-polynomial spot.item at.kind) at.item
           ∙ (commit-again m at.place k spot.index (space_at ns m).items spot.item (is_some (mark_of b)) at.kind (omega (arith, at.start, small)) at.index ∙ ap (ast.col m k) (marked-again b))
 
-  inter-again : (s m k : ℕ) (b : Bool) → m < length ns → k < length (space_at ns m).items → IsInter (item_at (space_at ns m).items k) → read_reference (outline ns) s (inter_reference ns m k b) ≡ ast.mid m k b
+  pub inter-again : (s m k : ℕ) (b : Bool) → m < length ns → k < length (space_at ns m).items → IsInter (item_at (space_at ns m).items k) → read_reference (outline ns) s (inter_reference ns m k b) ≡ ast.mid m k b
   inter-again s m k b l within is = of-item (item_at (space_at ns m).items k) refl is
     where
       of-item : (item : Line) → item_at (space_at ns m).items k ≡ item → IsInter item → read_reference (outline ns) s (reference_to ns m item None b) ≡ ast.mid m k b
@@ -184,11 +184,11 @@ IsPlaced s (ast.lookup a b) = IsPlacedList s a × IsPlacedList s b
 IsPlaced s (ast.bus ls rs) = All (IsPlacedList s) ls × All (IsPlacedList s) rs
 IsPlaced s _ = Unit {0}
 
-first-home : (o : Outline) (s : ℕ) (rs : List Reference) → unwrap_or (first_home o s rs) s ≡ first_or s (map (home_or o s) rs)
+pub first-home : (o : Outline) (s : ℕ) (rs : List Reference) → unwrap_or (first_home o s rs) s ≡ first_or s (map (home_or o s) rs)
 first-home o s [] = refl
 first-home o s (r ∷ rs) = refl
 
-references-dressed : (l : Level) (t : Term) → references (dressed l t) ≡ references t
+pub references-dressed : (l : Level) (t : Term) → references (dressed l t) ≡ references t
 references-dressed l (num n) = refl
 references-dressed l (col r) = refl
 references-dressed l (constant x) = refl
@@ -216,7 +216,7 @@ selected-again (a ⊕ b) = refl
 selected-again (a ⊖ b) = refl
 selected-again (a ⊗ b) = refl
 
-list-terms : (ns : List Namespace) (l : Tuples) → terms_of_list (tuple ns l) ≡ map (expression ns) (sel_terms l.sel ++ l.terms)
+pub list-terms : (ns : List Namespace) (l : Tuples) → terms_of_list (tuple ns l) ≡ map (expression ns) (sel_terms l.sel ++ l.terms)
 list-terms ns l = by-sel l.sel
   where
     by-sel : (sel : Option ast.Term) → selectors_of (selector ns sel) ++ map (expression ns) l.terms ≡ map (expression ns) (sel_terms sel ++ l.terms)
@@ -258,16 +258,16 @@ module _ (ns : List Namespace) (named' : IsNamed ns) where
   spaces-named s m (ast.◌⊖◌ a b) l h = map-append (home_or (outline ns) s) (references (named ns a)) (references (named ns b)) ∙ joined-same _ _ _ _ (spaces-named s m a l h.0) (spaces-named s m b l h.1)
   spaces-named s m (ast.◌⊗◌ a b) l h = map-append (home_or (outline ns) s) (references (named ns a)) (references (named ns b)) ∙ joined-same _ _ _ _ (spaces-named s m a l h.0) (spaces-named s m b l h.1)
 
-  spaces-of-all : (s m : ℕ) (es : List ast.Term) → m < length ns → All (IsTerm ns m) es → map (home_or (outline ns) s) (flat_map references (map (expression ns) es)) ≡ flat_map spaces_in es
+  pub spaces-of-all : (s m : ℕ) (es : List ast.Term) → m < length ns → All (IsTerm ns m) es → map (home_or (outline ns) s) (flat_map references (map (expression ns) es)) ≡ flat_map spaces_in es
   spaces-of-all s m [] l h = refl
   spaces-of-all s m (e ∷ es) l h =
       map-append (home_or (outline ns) s) (references (expression ns e)) (flat_map references (map (expression ns) es))
       ∙ joined-same _ _ _ _ (ap (map (home_or (outline ns) s)) (references-dressed expr (named ns e)) ∙ spaces-named s m e l (All-head (IsTerm ns m) e es h)) (spaces-of-all s m es l (All-tail (IsTerm ns m) e es h))
 
-  home-again : (s m : ℕ) (es : List ast.Term) → m < length ns → All (IsTerm ns m) es → home_of_terms (outline ns) s (map (expression ns) es) ≡ first_or s (flat_map spaces_in es)
+  pub home-again : (s m : ℕ) (es : List ast.Term) → m < length ns → All (IsTerm ns m) es → home_of_terms (outline ns) s (map (expression ns) es) ≡ first_or s (flat_map spaces_in es)
   home-again s m es l h = first-home (outline ns) s (flat_map references (map (expression ns) es)) ∙ ap (first_or s) (spaces-of-all s m es l h)
 
-  list-all : (wide : ℕ) (a : Tuples) → IsList ns wide a → All (IsTerm ns a.space) (sel_terms a.sel ++ a.terms)
+  pub list-all : (wide : ℕ) (a : Tuples) → IsList ns wide a → All (IsTerm ns a.space) (sel_terms a.sel ++ a.terms)
   list-all wide a h = All-append (IsTerm ns a.space) (sel_terms a.sel) a.terms (by-sel a.sel h.sel) h.terms
     where
       by-sel : (sel : Option ast.Term) → IsSelector ns a.space sel → All (IsTerm ns a.space) (sel_terms sel)

@@ -1,0 +1,255 @@
+-- A printed text breaks no rule, where what is printed is sound, its names aren't repeated and its lines are in their places.
+use Rattle.std.proofs.Common.{ℕ, zero, suc, ◌≡◌, ◌<◌, ◌≤◌, ◌+◌, ◌-◌, ◌^◌, List, [], ◌∷◌, ◌++◌, Bool, true, false, not, ◌&&◌, nat_lt, nat_le, nat_eq, cond, length, map, take, filter, sum_by, Option, Some, None, refl, sym, ap, subst, ◌∙◌, arith, All, inl, inr}
+use Rattle.std.specs.Prelude.{flat_map, unwrap_or, option_map, is_some, is_none}
+use Rattle.std.proofs.lemmas.List.{append-nil, map-append, length-map}
+use Rattle.std.proofs.lemmas.List.Elements.{All-nil, All-cons, All-head, All-tail, All-append}
+use Rattle.std.proofs.lemmas.Grind.{common_steps, flat_map-append}
+use Rattle.gold.specs.Field.{p}
+use Rattle.pil_syntax.specs.declared.tree.Ident.{Ident}
+use Rattle.pil_syntax.specs.declared.tree.Number.{Number}
+use Rattle.pil_syntax.specs.declared.tree.Reference.{Reference}
+use Rattle.pil_syntax.specs.Tree.{Term, num, col, constant, public, opp, group, ◌⊕◌, ◌⊖◌, ◌⊗◌, Tuple}
+use Rattle.pil_syntax.specs.Grammar.{Level, expr, term, fact}
+use Rattle.pil_syntax.specs.Printing.{dressed}
+use Rattle.pil_ast.specs.Term as ast
+use Rattle.pil_ast.specs.Term.{Namespace, Line, Tuples, item_at, inter_at, space_at, columns_of, width}
+use Rattle.pil_ast.specs.Written.{marked}
+use Rattle.pil_ast.specs.Sound.{IsTerm, IsSelector, IsList, IsItem, IsInter, IsAcyclic, IsSound}
+use Rattle.pil_names.specs.Outline.{Draft, Home, Outline, home_at, draft_at}
+use Rattle.pil_names.specs.Finding.{Entry, found, home_entries, public_entries, polynomials_from, polynomial_entries, home_named, item_named}
+use Rattle.pil_names.specs.Wrongs.{each_from, each_item, unless, each_name, terms_of, terms_of_list, repeated, repeated_among, unknown, unknown_index, length_of, unknown_in_item, unknown_in_home, unknown_reference, unknown_constant, unknown_public, is_public_item, is_public_in, unknown_in_size, unknown_in_term, unknown_in_draft, bad_size, bad_public_row, bad_row_of_draft, bad_rows, rows_of, references, home_or, home_of_terms, stray, strays, mixed_in, mixed_in_draft, mixed, wrong_length, other_width, other_widths, width_of_first, wrong_widths_of, wrong_widths}
+use Rattle.pil_meaning.specs.Meaning.{read_reference, meaning}
+use Rattle.pil_meaning.specs.Marks.{is_marked_in, double_of, double_at, double_reference, double_in_term, double_in_draft, double}
+use Rattle.pil_meaning.specs.Soundness.{IsUnbroken}
+use Rattle.pil_print.specs.Statements.{ident, numeral, name_of, is_constant, is_commit, declared, Spot, spot_in, index_in, mark_of, reference_to, column_reference, inter_reference, published, named, expression, tuple}
+use Rattle.pil_print.proofs.Printable.{publics-counted}
+use Rattle.pil_print.proofs.Outlines.{draft, home, outline, home-at, draft-at, IsNamed, space-found, public-found, IsPolynomial, polynomial-found, IsAt, column-place}
+use Rattle.pil_print.proofs.Rereads.{spaces_in, sel_terms, IsPlacedList, IsPlaced, ArePlaced, column-again, inter-again, references-dressed, list-terms, constant-polynomial, commit-polynomial, spaces-of-all, home-again, list-all, meaning-again}
+
+none-joined : (a b : List ℕ) → a ≡ [] → b ≡ [] → a ++ b ≡ []
+none-joined a b p q = ap (λ s. s ++ b) p ∙ q
+
+flat-two : {X : Type 0} (f : X → List ℕ) (xs ys : List X) → flat_map f xs ≡ [] → flat_map f ys ≡ [] → flat_map f (xs ++ ys) ≡ []
+flat-two f xs ys p q = flat_map-append f xs ys ∙ none-joined (flat_map f xs) (flat_map f ys) p q
+
+flat-none : {X Y : Type 0} (f : Y → List ℕ) (g : X → Y) (xs : List X) → All (λ x. f (g x) ≡ []) xs → flat_map f (map g xs) ≡ []
+flat-none f g [] h = refl
+flat-none f g (x ∷ xs) h = none-joined (f (g x)) (flat_map f (map g xs)) (All-head (λ x. f (g x) ≡ []) x xs h) (flat-none f g xs (All-tail (λ x. f (g x) ≡ []) x xs h))
+
+unless-true : (b : Bool) (at : ℕ) → b ≡ true → unless b at ≡ []
+unless-true b at e = ap (λ c. unless c at) e
+
+below : (a b : ℕ) → a < b → nat_lt a b ≡ true
+below a b l = grind (arith, common_steps)
+
+at-most : (a b : ℕ) → a ≤ b → nat_le a b ≡ true
+at-most a b l = grind (arith, common_steps)
+
+equals : (a b : ℕ) → a ≡ b → nat_eq a b ≡ true
+equals a b e = grind (arith, common_steps)
+
+two-true : (a b : Bool) → a ≡ true → b ≡ true → (a && b) ≡ true
+two-true a b p q = ap (λ x. x && b) p ∙ q
+
+both-same : (a b c d : List ℕ) → a ≡ c → b ≡ d → a ++ b ≡ c ++ d
+both-same a b c d p q = ap (λ x. x ++ b) p ∙ ap (λ x. c ++ x) q
+
+each-dressed : (P : Reference → List ℕ) (C G : Ident → List ℕ) (l : Level) (t : Term) → each_name P C G (dressed l t) ≡ each_name P C G t
+each-dressed P C G l (num n) = refl
+each-dressed P C G l (col r) = refl
+each-dressed P C G l (constant x) = refl
+each-dressed P C G l (public x) = refl
+each-dressed P C G l (opp a) = each-dressed P C G fact a
+each-dressed P C G l (group a) = each-dressed P C G l a
+each-dressed P C G expr (a ⊕ b) = both-same _ _ _ _ (each-dressed P C G expr a) (each-dressed P C G term b)
+each-dressed P C G term (a ⊕ b) = both-same _ _ _ _ (each-dressed P C G expr a) (each-dressed P C G term b)
+each-dressed P C G fact (a ⊕ b) = both-same _ _ _ _ (each-dressed P C G expr a) (each-dressed P C G term b)
+each-dressed P C G expr (a ⊖ b) = both-same _ _ _ _ (each-dressed P C G expr a) (each-dressed P C G term b)
+each-dressed P C G term (a ⊖ b) = both-same _ _ _ _ (each-dressed P C G expr a) (each-dressed P C G term b)
+each-dressed P C G fact (a ⊖ b) = both-same _ _ _ _ (each-dressed P C G expr a) (each-dressed P C G term b)
+each-dressed P C G expr (a ⊗ b) = both-same _ _ _ _ (each-dressed P C G term a) (each-dressed P C G fact b)
+each-dressed P C G term (a ⊗ b) = both-same _ _ _ _ (each-dressed P C G term a) (each-dressed P C G fact b)
+each-dressed P C G fact (a ⊗ b) = both-same _ _ _ _ (each-dressed P C G term a) (each-dressed P C G fact b)
+
+-- each of the numbers is m
+abbrev AreAll : ℕ → List ℕ → Type 0
+AreAll m [] = Unit {0}
+AreAll m (x ∷ xs) = (x ≡ m) × AreAll m xs
+
+are-joined : (m : ℕ) (xs ys : List ℕ) → AreAll m xs → AreAll m ys → AreAll m (xs ++ ys)
+are-joined m [] ys a b = b
+are-joined m (x ∷ xs) ys a b = (a.0, are-joined m xs ys a.1 b)
+
+spaces-are : (ns : List Namespace) (m : ℕ) (e : ast.Term) → IsTerm ns m e → AreAll m (spaces_in e)
+spaces-are ns m (ast.num n) h = tt
+spaces-are ns m (ast.col n k b) h = (h.0, tt)
+spaces-are ns m (ast.mid n k b) h = (h.0, tt)
+spaces-are ns m (ast.public k) h = tt
+spaces-are ns m (ast.opp a) h = spaces-are ns m a h
+spaces-are ns m (ast.◌⊕◌ a b) h = are-joined m (spaces_in a) (spaces_in b) (spaces-are ns m a h.0) (spaces-are ns m b h.1)
+spaces-are ns m (ast.◌⊖◌ a b) h = are-joined m (spaces_in a) (spaces_in b) (spaces-are ns m a h.0) (spaces-are ns m b h.1)
+spaces-are ns m (ast.◌⊗◌ a b) h = are-joined m (spaces_in a) (spaces_in b) (spaces-are ns m a h.0) (spaces-are ns m b h.1)
+
+spaces-all-are : (ns : List Namespace) (m : ℕ) (es : List ast.Term) → All (IsTerm ns m) es → AreAll m (flat_map spaces_in es)
+spaces-all-are ns m [] h = tt
+spaces-all-are ns m (e ∷ es) h = are-joined m (spaces_in e) (flat_map spaces_in es) (spaces-are ns m e (All-head (IsTerm ns m) e es h)) (spaces-all-are ns m es (All-tail (IsTerm ns m) e es h))
+
+strays-none : (o : Outline) (s m : ℕ) (rs : List Reference) → AreAll m (map (home_or o s) rs) → flat_map (stray o s m) rs ≡ []
+strays-none o s m [] h = refl
+strays-none o s m (r ∷ rs) h = none-joined (stray o s m r) (flat_map (stray o s m) rs) (unless-true (nat_eq (home_or o s r) m) r.name.at (equals (home_or o s r) m h.0)) (strays-none o s m rs h.1)
+
+module _ (ns : List Namespace) (named' : IsNamed ns) where
+  item-found : (m j : ℕ) (item : Line) (i : Option Number) (b : Bool) → m < length ns → j < length (space_at ns m).items → IsPolynomial item → item_at (space_at ns m).items j ≡ item
+      → item_named (outline ns) m (reference_to ns m item i b) ≡ Some j
+  item-found m j item i b l within is same =
+      ap (λ (h : Home). found (name_of item) (polynomials_from 0 h.items)) (home-at ns ns m l)
+      ∙ (ap (λ (x : Line). found (name_of x) (polynomials_from 0 (map (draft ns) (space_at ns m).items))) (sym same)
+          ∙ polynomial-found ns m j named' l within (subst IsPolynomial (sym same) is))
+
+  known-again : (s m j : ℕ) (item : Line) (i : Option Number) (b : Bool) → m < length ns → j < length (space_at ns m).items → IsPolynomial item → item_at (space_at ns m).items j ≡ item
+      → unknown_reference (outline ns) s (reference_to ns m item i b) ≡ unknown_index 0 (length_of (draft ns item)) i
+  known-again s m j item i b l within is same =
+      let o = outline ns in
+      let r = reference_to ns m item i b in
+      ap (unknown_in_home o r) (space-found ns m named' l)
+      ∙ (ap (unknown_in_item r (home_at o.homes m).items) (item-found m j item i b l within is same)
+          ∙ (ap (λ (h : Home). unknown_index 0 (length_of (draft_at h.items j)) i) (home-at ns ns m l)
+              ∙ ap (λ (d : Draft). unknown_index 0 (length_of d) i) (draft-at ns (space_at ns m).items j within ∙ ap (draft ns) same)))
+
+  constant-known : (item : Line) (n : ℕ) → is_constant item ≡ true → n < columns_of item → unknown_index 0 (length_of (draft ns item)) (index_in item n) ≡ []
+  constant-known (ast.constant x None) n e l = refl
+  constant-known (ast.constant x (Some w)) n e l = unless-true (nat_lt n w) 0 (below n w l)
+  constant-known (ast.commit x w) n e l = let no : ⊥ = cc in absurd no
+  constant-known (ast.inter x w) n e l = let no : ⊥ = cc in absurd no
+  constant-known (ast.published x w c r) n e l = let no : ⊥ = cc in absurd no
+  constant-known (ast.identity w x y) n e l = let no : ⊥ = cc in absurd no
+  constant-known (ast.lookup x y) n e l = let no : ⊥ = cc in absurd no
+  constant-known (ast.bus x y) n e l = let no : ⊥ = cc in absurd no
+
+  commit-known : (item : Line) (n : ℕ) → is_commit item ≡ true → n < columns_of item → unknown_index 0 (length_of (draft ns item)) (index_in item n) ≡ []
+  commit-known (ast.commit x None) n e l = refl
+  commit-known (ast.commit x (Some w)) n e l = unless-true (nat_lt n w) 0 (below n w l)
+  commit-known (ast.constant x w) n e l = let no : ⊥ = cc in absurd no
+  commit-known (ast.inter x w) n e l = let no : ⊥ = cc in absurd no
+  commit-known (ast.published x w c r) n e l = let no : ⊥ = cc in absurd no
+  commit-known (ast.identity w x y) n e l = let no : ⊥ = cc in absurd no
+  commit-known (ast.lookup x y) n e l = let no : ⊥ = cc in absurd no
+  commit-known (ast.bus x y) n e l = let no : ⊥ = cc in absurd no
+
+  constant-public : (item : Line) (j : ℕ) → is_constant item ≡ true → is_public_item (draft ns item ∷ []) (Some 0) ≡ true
+  constant-public (ast.constant x w) j e = refl
+  constant-public (ast.commit x w) j e = refl
+  constant-public (ast.inter x w) j e = let no : ⊥ = cc in absurd no
+  constant-public (ast.published x w c r) j e = let no : ⊥ = cc in absurd no
+  constant-public (ast.identity w x y) j e = let no : ⊥ = cc in absurd no
+  constant-public (ast.lookup x y) j e = let no : ⊥ = cc in absurd no
+  constant-public (ast.bus x y) j e = let no : ⊥ = cc in absurd no
+
+  commit-public : (item : Line) (j : ℕ) → is_commit item ≡ true → is_public_item (draft ns item ∷ []) (Some 0) ≡ true
+  commit-public (ast.constant x w) j e = refl
+  commit-public (ast.commit x w) j e = refl
+  commit-public (ast.inter x w) j e = let no : ⊥ = cc in absurd no
+  commit-public (ast.published x w c r) j e = let no : ⊥ = cc in absurd no
+  commit-public (ast.identity w x y) j e = let no : ⊥ = cc in absurd no
+  commit-public (ast.lookup x y) j e = let no : ⊥ = cc in absurd no
+  commit-public (ast.bus x y) j e = let no : ⊥ = cc in absurd no
+
+  public-again : (s m j : ℕ) (item : Line) (i : Option Number) (b : Bool) → m < length ns → j < length (space_at ns m).items → IsPolynomial item → item_at (space_at ns m).items j ≡ item
+      → is_public_item (draft ns item ∷ []) (Some 0) ≡ true
+      → is_public_in (outline ns) (reference_to ns m item i b) (home_named (outline ns) s (Some (ident (space_at ns m).name))) ≡ true
+  public-again s m j item i b l within is same h =
+      let o = outline ns in
+      let r = reference_to ns m item i b in
+      ap (is_public_in o r) (space-found ns m named' l)
+      ∙ (ap (is_public_item (home_at o.homes m).items) (item-found m j item i b l within is same)
+          ∙ (ap (λ (k : Home). is_public_item (draft_at k.items j ∷ []) (Some 0)) (home-at ns ns m l)
+              ∙ (ap (λ (d : Draft). is_public_item (d ∷ []) (Some 0)) (draft-at ns (space_at ns m).items j within ∙ ap (draft ns) same) ∙ h)))
+
+  column-known : (s m k : ℕ) (b : Bool) → m < length ns → k < width (space_at ns m).items → unknown_reference (outline ns) s (column_reference ns m k b) ≡ []
+  column-known s m k b l h =
+      let spot = spot_in (declared (space_at ns m).items) k in
+      elim (column-place (space_at ns m).items k h) [
+      | inl at ↦ known-again s m at.place spot.item (index_in spot.item spot.index) b l at.within (constant-polynomial ns named' spot.item at.kind) at.item ∙ constant-known spot.item spot.index at.kind at.index
+      | inr at ↦ known-again s m at.1.place spot.item (index_in spot.item spot.index) b l at.1.within (commit-polynomial ns named' spot.item at.1.kind) at.1.item ∙ commit-known spot.item spot.index at.1.kind at.1.index
+    ]
+
+  column-public : (s m k : ℕ) (b : Bool) → m < length ns → k < width (space_at ns m).items → is_public_in (outline ns) (column_reference ns m k b) (home_named (outline ns) s (column_reference ns m k b).space) ≡ true
+  column-public s m k b l h =
+      let spot = spot_in (declared (space_at ns m).items) k in
+      elim (column-place (space_at ns m).items k h) [
+      | inl at ↦ public-again s m at.place spot.item (index_in spot.item spot.index) b l at.within (constant-polynomial ns named' spot.item at.kind) at.item (constant-public spot.item 0 at.kind)
+      | inr at ↦ public-again s m at.1.place spot.item (index_in spot.item spot.index) b l at.1.within (commit-polynomial ns named' spot.item at.1.kind) at.1.item (commit-public spot.item 0 at.1.kind)
+    ]
+
+  inter-known : (s m k : ℕ) (b : Bool) → m < length ns → k < length (space_at ns m).items → IsInter (item_at (space_at ns m).items k) → unknown_reference (outline ns) s (inter_reference ns m k b) ≡ []
+  inter-known s m k b l within is = of-item (item_at (space_at ns m).items k) refl is
+    where
+      of-item : (item : Line) → item_at (space_at ns m).items k ≡ item → IsInter item → unknown_reference (outline ns) s (reference_to ns m item None b) ≡ []
+      of-item (ast.constant x w) e i = absurd i
+      of-item (ast.commit x w) e i = absurd i
+      of-item (ast.inter x w) e i = known-again s m k (ast.inter x w) None b l within tt e
+      of-item (ast.published x w c r) e i = absurd i
+      of-item (ast.identity w x y) e i = absurd i
+      of-item (ast.lookup x y) e i = absurd i
+      of-item (ast.bus x y) e i = absurd i
+
+  named-known : (s m : ℕ) (e : ast.Term) → m < length ns → IsTerm ns m e → unknown_in_term (outline ns) s (named ns e) ≡ []
+  named-known s m (ast.num n) l h = refl
+  named-known s m (ast.col n k b) l h = column-known s n k b (subst (λ j. j < length ns) (sym h.0) l) (subst (λ j. k < width (space_at ns j).items) (sym h.0) h.1)
+  named-known s m (ast.mid n k b) l h = inter-known s n k b (subst (λ j. j < length ns) (sym h.0) l) (subst (λ j. k < length (space_at ns j).items) (sym h.0) h.1.0) (subst (λ j. IsInter (item_at (space_at ns j).items k)) (sym h.0) h.1.1)
+  named-known s m (ast.public k) l h = unless-true _ 0 (ap is_some (public-found ns k named' (omega (arith, publics-counted ns))))
+  named-known s m (ast.opp a) l h = named-known s m a l h
+  named-known s m (ast.◌⊕◌ a b) l h = none-joined _ _ (named-known s m a l h.0) (named-known s m b l h.1)
+  named-known s m (ast.◌⊖◌ a b) l h = none-joined _ _ (named-known s m a l h.0) (named-known s m b l h.1)
+  named-known s m (ast.◌⊗◌ a b) l h = none-joined _ _ (named-known s m a l h.0) (named-known s m b l h.1)
+
+  term-known : (s m : ℕ) (e : ast.Term) → m < length ns → IsTerm ns m e → unknown_in_term (outline ns) s (expression ns e) ≡ []
+  term-known s m e l h = each-dressed (unknown_reference (outline ns) s) (unknown_constant (outline ns)) (unknown_public (outline ns)) expr (named ns e) ∙ named-known s m e l h
+
+  -- marks
+  double-column : (ms : List Namespace) (m k : ℕ) (b : Bool) (next : Option ℕ) → double_at ms (ast.col m k b) next ≡ []
+  double-column ms m k b None = refl
+  double-column ms m k b (Some at) = refl
+
+  double-inter : (m k : ℕ) (b : Bool) → (b ≡ true → marked (space_at ns m).items (inter_at (space_at ns m).items k) ≡ false) → double_at ns (ast.mid m k b) (mark_of b) ≡ []
+  double-inter m k false h = refl
+  double-inter m k true h = unless-true _ 0 (ap not (h refl))
+
+  named-single : (again : meaning (outline ns) ≡ ns) (s m : ℕ) (e : ast.Term) → m < length ns → IsTerm ns m e → double_in_term (outline ns) s (named ns e) ≡ []
+  named-single again s m (ast.num n) l h = refl
+  named-single again s m (ast.col n k b) l h =
+      ap (λ t. double_at (meaning (outline ns)) t (mark_of b)) (column-again ns named' s n k b (subst (λ j. j < length ns) (sym h.0) l) (subst (λ j. k < width (space_at ns j).items) (sym h.0) h.1))
+      ∙ double-column (meaning (outline ns)) n k b (mark_of b)
+  named-single again s m (ast.mid n k b) l h =
+      ap (λ t. double_at (meaning (outline ns)) t (mark_of b)) (inter-again ns named' s n k b (subst (λ j. j < length ns) (sym h.0) l) (subst (λ j. k < length (space_at ns j).items) (sym h.0) h.1.0) (subst (λ j. IsInter (item_at (space_at ns j).items k)) (sym h.0) h.1.1))
+      ∙ (ap (λ ms. double_at ms (ast.mid n k b) (mark_of b)) again
+          ∙ double-inter n k b (subst (λ j. b ≡ true → marked (space_at ns j).items (inter_at (space_at ns j).items k) ≡ false) (sym h.0) h.1.2))
+  named-single again s m (ast.public k) l h = refl
+  named-single again s m (ast.opp a) l h = named-single again s m a l h
+  named-single again s m (ast.◌⊕◌ a b) l h = none-joined _ _ (named-single again s m a l h.0) (named-single again s m b l h.1)
+  named-single again s m (ast.◌⊖◌ a b) l h = none-joined _ _ (named-single again s m a l h.0) (named-single again s m b l h.1)
+  named-single again s m (ast.◌⊗◌ a b) l h = none-joined _ _ (named-single again s m a l h.0) (named-single again s m b l h.1)
+
+  term-single : (again : meaning (outline ns) ≡ ns) (s m : ℕ) (e : ast.Term) → m < length ns → IsTerm ns m e → double_in_term (outline ns) s (expression ns e) ≡ []
+  term-single again s m e l h = each-dressed (double_reference (outline ns) s) (λ x. []) (λ x. []) expr (named ns e) ∙ named-single again s m e l h
+
+  -- what is true of each expression is true of those of a list and of an item
+  module _ (f : Term → List ℕ) (each : (m : ℕ) (e : ast.Term) → m < length ns → IsTerm ns m e → f (expression ns e) ≡ []) where
+    all-none : (m : ℕ) (es : List ast.Term) → m < length ns → All (IsTerm ns m) es → flat_map f (map (expression ns) es) ≡ []
+    all-none m es l h = flat-none f (expression ns) es (λ k d w. each m _ l (h k d w))
+
+    list-none : (wide : ℕ) (a : Tuples) → IsList ns wide a → flat_map f (terms_of_list (tuple ns a)) ≡ []
+    list-none wide a h = ap (flat_map f) (list-terms ns a) ∙ all-none a.space (sel_terms a.sel ++ a.terms) h.space (list-all ns named' wide a h)
+
+    lists-none : (wide : ℕ) (ls : List Tuples) → All (IsList ns wide) ls → flat_map f (flat_map terms_of_list (map (tuple ns) ls)) ≡ []
+    lists-none wide [] h = refl
+    lists-none wide (a ∷ ls) h = flat-two f (terms_of_list (tuple ns a)) (flat_map terms_of_list (map (tuple ns) ls)) (list-none wide a (All-head (IsList ns wide) a ls h)) (lists-none wide ls (All-tail (IsList ns wide) a ls h))
+
+    item-none : (s : ℕ) (l : Line) → s < length ns → IsItem ns s l → flat_map f (terms_of (draft ns l)) ≡ []
+    item-none s (ast.constant x n) l h = refl
+    item-none s (ast.commit x n) l h = refl
+    item-none s (ast.inter x e) l h = none-joined _ [] (each s e l h) refl
+    item-none s (ast.published x m k r) l h = refl
+    item-none s (ast.identity m a b) l h = none-joined _ _ (each m a h.0 h.1) (none-joined _ [] (each m b h.0 h.2) refl)
+    item-none s (ast.lookup a b) l h = flat-two f (terms_of_list (tuple ns a)) (terms_of_list (tuple ns b)) (list-none h.0 a h.2) (list-none h.0 b h.3)
+    item-none s (ast.bus ls rs) l h = flat-two f (flat_map terms_of_list (map (tuple ns) ls)) (flat_map terms_of_list (map (tuple ns) rs)) (lists-none h.0 ls h.4) (lists-none h.0 rs h.5)
