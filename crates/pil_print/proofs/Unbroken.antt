@@ -1,6 +1,7 @@
 -- A printed text breaks no rule, where what is printed is sound, its names aren't repeated and its lines are in their places.
 use Rattle.std.proofs.Common.{ℕ, zero, suc, ◌≡◌, ◌<◌, ◌≤◌, ◌+◌, ◌-◌, ◌^◌, List, [], ◌∷◌, ◌++◌, Bool, true, false, not, ◌&&◌, nat_lt, nat_le, nat_eq, cond, length, map, take, filter, sum_by, Option, Some, None, refl, sym, ap, subst, ◌∙◌, arith, All, inl, inr}
 use Rattle.std.specs.Prelude.{flat_map, unwrap_or, option_map, is_some, is_none}
+use Rattle.std.proofs.lemmas.Bool.{cases_lt}
 use Rattle.std.proofs.lemmas.List.{append-nil, map-append, length-map}
 use Rattle.std.proofs.lemmas.List.Elements.{All-nil, All-cons, All-head, All-tail, All-append}
 use Rattle.std.proofs.lemmas.Grind.{common_steps, flat_map-append}
@@ -8,13 +9,14 @@ use Rattle.gold.specs.Field.{p}
 use Rattle.pil_syntax.specs.declared.tree.Ident.{Ident}
 use Rattle.pil_syntax.specs.declared.tree.Number.{Number}
 use Rattle.pil_syntax.specs.declared.tree.Reference.{Reference}
+use Rattle.pil_syntax.specs.declared.tree.Size.TheVariants as sizes
 use Rattle.pil_syntax.specs.Tree.{Term, num, col, constant, public, opp, group, ◌⊕◌, ◌⊖◌, ◌⊗◌, Tuple}
 use Rattle.pil_syntax.specs.Grammar.{Level, expr, term, fact}
 use Rattle.pil_syntax.specs.Printing.{dressed}
 use Rattle.pil_ast.specs.Term as ast
 use Rattle.pil_ast.specs.Term.{Namespace, Line, Tuples, item_at, inter_at, space_at, columns_of, width}
 use Rattle.pil_ast.specs.Written.{marked}
-use Rattle.pil_ast.specs.Sound.{IsTerm, IsSelector, IsList, IsItem, IsInter, IsAcyclic, IsSound}
+use Rattle.pil_ast.specs.Sound.{IsTerm, IsSelector, IsList, IsItem, IsLength, IsInter, IsAcyclic, IsSound}
 use Rattle.pil_names.specs.Outline.{Draft, Home, Outline, home_at, draft_at}
 use Rattle.pil_names.specs.Finding.{Entry, found, home_entries, public_entries, polynomials_from, polynomial_entries, home_named, item_named}
 use Rattle.pil_names.specs.Wrongs.{each_from, each_item, unless, each_name, terms_of, terms_of_list, repeated, repeated_among, unknown, unknown_index, length_of, unknown_in_item, unknown_in_home, unknown_reference, unknown_constant, unknown_public, is_public_item, is_public_in, unknown_in_size, unknown_in_term, unknown_in_draft, bad_size, bad_public_row, bad_row_of_draft, bad_rows, rows_of, references, home_or, home_of_terms, stray, strays, mixed_in, mixed_in_draft, mixed, wrong_length, other_width, other_widths, width_of_first, wrong_widths_of, wrong_widths}
@@ -253,3 +255,128 @@ module _ (ns : List Namespace) (named' : IsNamed ns) where
     item-none s (ast.identity m a b) l h = none-joined _ _ (each m a h.0 h.1) (none-joined _ [] (each m b h.0 h.2) refl)
     item-none s (ast.lookup a b) l h = flat-two f (terms_of_list (tuple ns a)) (terms_of_list (tuple ns b)) (list-none h.0 a h.2) (list-none h.0 b h.3)
     item-none s (ast.bus ls rs) l h = flat-two f (flat_map terms_of_list (map (tuple ns) ls)) (flat_map terms_of_list (map (tuple ns) rs)) (lists-none h.0 ls h.4) (lists-none h.0 rs h.5)
+
+module _ (ns : List Namespace) (sound : IsSound ns) (named' : IsNamed ns) (placed : ArePlaced ns) where
+  item-known : (s : ℕ) (l : Line) → s < length ns → IsItem ns s l → unknown_in_draft (outline ns) s (draft ns l) ≡ []
+  item-known s (ast.constant x n) l h = refl
+  item-known s (ast.commit x n) l h = refl
+  item-known s (ast.inter x e) l h = item-none ns named' (unknown_in_term (outline ns) s) (λ m e. term-known ns named' s m e) s (ast.inter x e) l h
+  item-known s (ast.published x m k r) l h =
+      none-joined (unknown_reference (outline ns) s (column_reference ns m k false) ++ unless (is_public_in (outline ns) (column_reference ns m k false) (home_named (outline ns) s (column_reference ns m k false).space)) 0) []
+      (none-joined (unknown_reference (outline ns) s (column_reference ns m k false)) _ (column-known ns named' s m k false h.0 h.1) (unless-true _ 0 (column-public ns named' s m k false h.0 h.1))) refl
+  item-known s (ast.identity m a b) l h = item-none ns named' (unknown_in_term (outline ns) s) (λ n e. term-known ns named' s n e) s (ast.identity m a b) l h
+  item-known s (ast.lookup a b) l h = item-none ns named' (unknown_in_term (outline ns) s) (λ n e. term-known ns named' s n e) s (ast.lookup a b) l h
+  item-known s (ast.bus ls rs) l h = item-none ns named' (unknown_in_term (outline ns) s) (λ n e. term-known ns named' s n e) s (ast.bus ls rs) l h
+
+  item-rows : (s : ℕ) (l : Line) → IsItem ns s l → bad_row_of_draft (outline ns) s (draft ns l) ≡ []
+  item-rows s (ast.constant x n) h = refl
+  item-rows s (ast.commit x n) h = refl
+  item-rows s (ast.inter x e) h = refl
+  item-rows s (ast.published x m k r) h =
+      ap (bad_public_row (outline ns) (numeral r)) (space-found ns m named' h.0)
+      ∙ (ap (λ (k : Home). unless (nat_lt r (rows_of (outline ns) k.size)) 0) (home-at ns ns m h.0) ∙ unless-true (nat_lt r (space_at ns m).rows) 0 (below r (space_at ns m).rows h.2))
+  item-rows s (ast.identity m a b) h = refl
+  item-rows s (ast.lookup a b) h = refl
+  item-rows s (ast.bus ls rs) h = refl
+
+  terms-alike : (s m : ℕ) (es : List ast.Term) → m < length ns → All (IsTerm ns m) es → strays (outline ns) s m (map (expression ns) es) ≡ []
+  terms-alike s m es l h = strays-none (outline ns) s m (flat_map references (map (expression ns) es)) (subst (AreAll m) (sym (spaces-of-all ns named' s m es l h)) (spaces-all-are ns m es h))
+
+  list-alike : (s wide : ℕ) (a : Tuples) → IsList ns wide a → IsPlacedList s a → mixed_in (outline ns) s (terms_of_list (tuple ns a)) ≡ []
+  list-alike s wide a h g =
+      let es = sel_terms a.sel ++ a.terms in
+      ap (mixed_in (outline ns) s) (list-terms ns a)
+      ∙ (ap (λ m. strays (outline ns) s m (map (expression ns) es)) (home-again ns named' s a.space es h.space (list-all ns named' wide a h) ∙ g)
+          ∙ terms-alike s a.space es h.space (list-all ns named' wide a h))
+
+  lists-alike : (s wide : ℕ) (ls : List Tuples) → All (IsList ns wide) ls → All (IsPlacedList s) ls → flat_map (λ l. mixed_in (outline ns) s (terms_of_list l)) (map (tuple ns) ls) ≡ []
+  lists-alike s wide ls h g = flat-none (λ l. mixed_in (outline ns) s (terms_of_list l)) (tuple ns) ls (λ k d w. list-alike s wide _ (h k d w) (g k d w))
+
+  item-alike : (s : ℕ) (l : Line) → s < length ns → IsItem ns s l → IsPlaced s l → mixed_in_draft (outline ns) s (draft ns l) ≡ []
+  item-alike s (ast.constant x n) l h g = refl
+  item-alike s (ast.commit x n) l h g = refl
+  item-alike s (ast.inter x e) l h g = terms-alike s s (e ∷ []) l (All-cons (IsTerm ns s) e [] h (All-nil (IsTerm ns s)))
+  item-alike s (ast.published x m k r) l h g = refl
+  item-alike s (ast.identity m a b) l h g =
+      let all : All (IsTerm ns m) (a ∷ b ∷ []) = All-cons (IsTerm ns m) a (b ∷ []) h.1 (All-cons (IsTerm ns m) b [] h.2 (All-nil (IsTerm ns m))) in
+      ap (λ n. strays (outline ns) s n (map (expression ns) (a ∷ b ∷ []))) (home-again ns named' s m (a ∷ b ∷ []) h.0 all ∙ g) ∙ terms-alike s m (a ∷ b ∷ []) h.0 all
+  item-alike s (ast.lookup a b) l h g = none-joined _ _ (list-alike s h.0 a h.2 g.0) (list-alike s h.0 b h.3 g.1)
+  item-alike s (ast.bus ls rs) l h g = none-joined _ _ (lists-alike s h.0 ls h.4 g.0) (lists-alike s h.0 rs h.5 g.1)
+
+  length-right : (n : Option ℕ) → IsLength n → wrong_length (option_map numeral n) ≡ []
+  length-right None h = refl
+  length-right (Some n) h = unless-true _ 0 (two-true (nat_lt 0 n) (nat_le n 4096) (below 0 n (omega (arith, h.0))) (at-most n 4096 h.1))
+
+  widths-alike : (wide n : ℕ) (ls : List Tuples) → n ≡ wide → All (IsList ns wide) ls → other_widths n (map (tuple ns) ls) ≡ []
+  widths-alike wide n ls e h =
+      flat-none (other_width n) (tuple ns) ls (λ k d w. unless-true _ 0 (equals _ n (length-map _ (expression ns) ∙ (h k d w).many ∙ sym e)))
+
+  first-width : (wide : ℕ) (ls : List Tuples) → 1 ≤ length ls → All (IsList ns wide) ls → width_of_first (map (tuple ns) ls) ≡ wide
+  first-width wide [] l h = absurd (omega arith)
+  first-width wide (a ∷ ls) l h = length-map a.terms (expression ns) ∙ (All-head (IsList ns wide) a ls h).many
+
+  item-wide : (s : ℕ) (l : Line) → IsItem ns s l → wrong_widths_of (draft ns l) ≡ []
+  item-wide s (ast.constant x n) h = length-right n h
+  item-wide s (ast.commit x n) h = length-right n h
+  item-wide s (ast.inter x e) h = refl
+  item-wide s (ast.published x m k r) h = refl
+  item-wide s (ast.identity m a b) h = refl
+  item-wide s (ast.lookup a b) h =
+      unless-true _ 0 (equals _ _ (length-map b.terms (expression ns) ∙ h.3.many ∙ sym h.2.many ∙ sym (length-map a.terms (expression ns))))
+  item-wide s (ast.bus ls rs) h =
+      let n = first-width h.0 ls h.2 h.4 in
+      none-joined _ _ (widths-alike h.0 _ ls n h.4) (widths-alike h.0 _ rs n h.5)
+
+  each-none : (f : ℕ → Draft → List ℕ) (n : ℕ) (ms : List Namespace) → ((j : ℕ) → j < length ms → All (λ l. f (n + j) (draft ns l) ≡ []) (space_at ms j).items) → each_from (λ s (h : Home). flat_map (f s) h.items) n (map (home ns) ms) ≡ []
+  each-none f n [] h = refl
+  each-none f n (m ∷ ms) h =
+      let z : n + 0 ≡ n = omega arith in
+      none-joined (flat_map (f n) (map (draft ns) m.items)) _
+      (flat-none (f n) (draft ns) m.items (subst (λ k. All (λ l. f k (draft ns l) ≡ []) m.items) z (h 0 (omega arith))))
+      (each-none f (n + 1) ms (λ j l. let e : n + suc j ≡ n + 1 + j = omega arith in subst (λ k. All (λ l. f k (draft ns l) ≡ []) (space_at ms j).items) e (h (suc j) (omega arith))))
+
+  items-none : (f : ℕ → Draft → List ℕ) → ((s : ℕ) (l : Line) → s < length ns → IsItem ns s l → IsPlaced s l → f s (draft ns l) ≡ []) → each_item f (outline ns) ≡ []
+  items-none f g =
+      each-none f 0 ns (λ j l. let z : j ≡ 0 + j = omega arith in subst (λ k. All (λ x. f k (draft ns x) ≡ []) (space_at ns j).items) z (λ k d w. g j _ l ((sound.spaces j l).items k d w) (placed.each j l k d w)))
+
+  sizes-none : (f : Home → List ℕ) → ((s : ℕ) → s < length ns → f (home ns (space_at ns s)) ≡ []) → (ms : List Namespace) → ((j : ℕ) → j < length ms → f (home ns (space_at ms j)) ≡ []) → flat_map f (map (home ns) ms) ≡ []
+  sizes-none f g [] h = refl
+  sizes-none f g (m ∷ ms) h = none-joined (f (home ns m)) (flat_map f (map (home ns) ms)) (h 0 (omega arith)) (sizes-none f g ms (λ j l. h (suc j) (omega arith)))
+
+  rank-none : IsAcyclic []
+  rank-none = (λ k. 0, record { bounded = λ k. omega arith; falling = λ k. tt })
+
+  acyclic-past : (ms : List Namespace) (s : ℕ) → length ms ≤ s → IsAcyclic (space_at ms s).items
+  acyclic-past [] s l = rank-none
+  acyclic-past (m ∷ ms) zero l = absurd (omega arith)
+  acyclic-past (m ∷ ms) (suc s) l = acyclic-past ms s (omega arith)
+
+  pub unbroken-again : IsUnbroken (outline ns)
+  unbroken-again =
+      let o = outline ns in
+      let again = meaning-again ns sound named' placed in
+      record {
+        unknown = none-joined (flat_map (λ (h : Home). unknown_in_size o h.size) (map (home ns) ns)) (each_item (unknown_in_draft o) o)
+            (sizes-none (λ (h : Home). unknown_in_size o h.size) (λ s l. refl) ns (λ s l. refl))
+            (items-none (unknown_in_draft o) (λ s l w h g. item-known s l w h));
+        bad_rows = none-joined (flat_map (λ (h : Home). bad_size o h.size) (map (home ns) ns)) (each_item (bad_row_of_draft o) o)
+            (sizes-none (λ (h : Home). bad_size o h.size) rows-right ns rows-right)
+            (items-none (bad_row_of_draft o) (λ s l w h g. item-rows s l h));
+        mixed = items-none (mixed_in_draft o) item-alike;
+        wrong_widths = items-none (λ s d. wrong_widths_of d) (λ s l w h g. item-wide s l h);
+        acyclic = λ s. subst (λ ms. IsAcyclic (space_at ms s).items) (sym again) (elim (cases_lt s (length ns)) [
+          | inl l ↦ (sound.spaces s l).acyclic
+          | inr l ↦ acyclic-past ns s l
+        ]);
+        double = items-none (double_in_draft o) (λ s l w h g. item-none ns named' (double_in_term o s) (λ m e. term-single ns named' again s m e) s l w h);
+      }
+    where
+      rows-right : (s : ℕ) → s < length ns → bad_size (outline ns) (sizes.Number (numeral (space_at ns s).rows)) ≡ []
+      rows-right s l = let space = sound.spaces s l in unless-true _ 0 (two-true (nat_lt 0 (space_at ns s).rows) (nat_le (space_at ns s).rows (2 ^ 24)) (below 0 (space_at ns s).rows (omega (arith, space.some_rows))) (at-most (space_at ns s).rows (2 ^ 24) space.few_rows))
+
+pub repeats-none : (ns : List Namespace) → IsNamed ns → repeated (outline ns) ≡ []
+repeats-none ns h = none-joined _ _ h.homes (none-joined _ _ h.publics (each-home ns (λ s l. h.polynomials s l)))
+  where
+    each-home : (ms : List Namespace) → ((s : ℕ) → s < length ms → repeated_among (polynomials_from 0 (map (draft ns) (space_at ms s).items)) ≡ []) → flat_map (λ (k : Home). repeated_among (polynomial_entries k)) (map (home ns) ms) ≡ []
+    each-home [] g = refl
+    each-home (m ∷ ms) g = none-joined _ _ (g 0 (omega arith)) (each-home ms (λ s l. g (suc s) (omega arith)))
