@@ -7,3 +7,4 @@ pub mod Rereads
 pub mod Meanings
 pub mod Roundtrip
 pub mod Unbroken
+pub mod Files
