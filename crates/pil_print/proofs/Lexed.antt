@@ -32,17 +32,15 @@ record Lexes (text : List ℕ) (ps : List Placed) : Type 0 where
   lexes : LexesTo text (map token_of ps)
 
 -- each is a token that a text can have
-AreTokens : List Placed → Type 0
+abbrev pub AreTokens : List Placed → Type 0
 AreTokens [] = Unit {0}
 AreTokens (t ∷ ts) = IsToken t.token × AreTokens ts
 
-both : (ps qs : List Placed) → AreTokens (ps ++ qs) → AreTokens ps × AreTokens qs
-unfolding AreTokens
+pub both : (ps qs : List Placed) → AreTokens (ps ++ qs) → AreTokens ps × AreTokens qs
 both [] qs h = (tt, h)
 both (p ∷ ps) qs h = let rest = both ps qs h.1 in ((h.0, rest.0), rest.1)
 
-are-tokens : (ps : List Placed) → All (λ t. IsToken t.token) ps → AreTokens ps
-unfolding AreTokens
+pub are-tokens : (ps : List Placed) → All (λ t. IsToken t.token) ps → AreTokens ps
 are-tokens [] h = tt
 are-tokens (p ∷ ps) h = (All-head (λ t. IsToken t.token) p ps h, are-tokens ps (All-tail (λ t. IsToken t.token) p ps h))
 
@@ -143,12 +141,10 @@ ends-space None = refl
 ends-space (Some x) = ends-append x.name 46 []
 
 space-lexes : (x : Option Ident) → AreTokens (space_tokens x) → Lexes (space_text x) (space_tokens x)
-unfolding AreTokens
 space-lexes None h = none
 space-lexes (Some x) h = right refl (a-name x h.0) (a-mark Dot 0)
 
 index-lexes : (n : Option Number) → AreTokens (index_tokens n) → Lexes (index_text n) (index_tokens n)
-unfolding AreTokens
 index-lexes None h = none
 index-lexes (Some n) h = left refl (a-mark OpenBracket 0) (right refl (a-number n h.1.0) (a-mark CloseBracket 0))
 
@@ -157,14 +153,12 @@ next-lexes None = none
 next-lexes (Some i) = a-mark Prime i
 
 ref-lexes : (r : Reference) → AreTokens (ref_tokens r) → Lexes (reference_text r) (ref_tokens r)
-unfolding AreTokens
 ref-lexes r h =
     let parts = both (space_tokens r.space) (name r.name ∷ (index_tokens r.index ++ next_tokens r.next)) h in
     let rest = both (index_tokens r.index) (next_tokens r.next) parts.1.1 in
     left (ends-space r.space) (space-lexes r.space parts.0) (right (starts-index r.index r.next) (a-name r.name parts.1.0) (right (starts-next r.next) (index-lexes r.index rest.0) (next-lexes r.next)))
 
 term-lexes : (e : Term) → AreTokens (term_tokens e) → Lexes (term_text e) (term_tokens e)
-unfolding AreTokens
 term-lexes (num n) h = a-number n h.0
 term-lexes (col r) h = ref-lexes r h
 term-lexes (constant x) h = left refl (a-mark Percent 0) (a-name x h.1.0)
@@ -182,7 +176,6 @@ term-lexes (a ⊗ b) h =
     right refl (term-lexes a parts.0) (left refl (around Star refl refl) (term-lexes b parts.1.1))
 
 filter-lexes : (f : Filter) → AreTokens (filter_tokens f) → Lexes (filter_text f) (filter_tokens f)
-unfolding AreTokens
 filter-lexes every h = none
 filter-lexes (by_col r) h = subst (λ ts. Lexes (filter_text (by_col r)) ts) (append-nil (ref_tokens r)) (right refl (ref-lexes r h) space)
 filter-lexes (by_group e) h = left refl (a-mark OpenParen 0) (right refl (term-lexes e (both (term_tokens e) (mark CloseParen ∷ []) h.1).0) (left refl (a-mark CloseParen 0) space))
@@ -192,7 +185,6 @@ comma = left refl (a-mark Comma 0) space
 
 separated-lexes : {A : Type 0} (m : Mark) (between : List ℕ) (f : A → List ℕ) (g : A → List Placed) (xs : List A) → starts_word between ≡ false → ends_word between ≡ false → 0 < length between → Lexes between (mark m ∷ [])
     → ((x : A) → AreTokens (g x) → Lexes (f x) (g x)) → AreTokens (joined m g xs) → Lexes (separated between f xs) (joined m g xs)
-unfolding AreTokens
 separated-lexes m between f g [] s e some l each h = none
 separated-lexes m between f g (x ∷ []) s e some l each h = each x h
 separated-lexes m between f g (x ∷ y ∷ xs) s e some l each h =
@@ -204,7 +196,6 @@ separated-lexes m between f g (x ∷ y ∷ xs) s e some l each h =
     starts-more (x ∷ xs) ys some s = s
 
 tuple-lexes : (l : Tuple) → AreTokens (tuple_tokens l) → Lexes (tuple_text l) (tuple_tokens l)
-unfolding AreTokens
 tuple-lexes l h =
     let parts = both (filter_tokens l.filter) (marked OpenBrace l.at ∷ (joined Comma term_tokens l.entries ++ mark CloseBrace ∷ [])) h in
     let rest = both (joined Comma term_tokens l.entries) (mark CloseBrace ∷ []) parts.1.1 in
@@ -215,7 +206,6 @@ tuples-lexes : (ls : List Tuple) → AreTokens (joined Plus tuple_tokens ls) →
 tuples-lexes ls h = separated-lexes Plus (codes " + ") tuple_text tuple_tokens ls refl refl (omega arith) (around Plus refl refl) tuple-lexes h
 
 declaration-lexes : (d : Declaration) → AreTokens (declaration_tokens d) → Lexes (declaration_text d) (declaration_tokens d)
-unfolding AreTokens
 declaration-lexes d h = right (starts-length d.length) (a-name d.name h.0) (index-lexes d.length h.1)
 
 kind-lexes : (k : ColumnKind) → Lexes (kind_text k) (word (kind_word k) ∷ [])
@@ -227,7 +217,6 @@ ends-kind kinds.Constant = refl
 ends-kind kinds.Commit = refl
 
 size-lexes : (n : Size) → AreTokens (size_tokens n) → Lexes (size_text n) (size_tokens n)
-unfolding AreTokens
 size-lexes (sizes.Number n) h = a-number n h.0
 size-lexes (sizes.Constant x) h = left refl (a-mark Percent 0) (a-name x h.1.0)
 
@@ -235,7 +224,6 @@ equals : Lexes (codes " = ") (mark Equals ∷ [])
 equals = around Equals refl refl
 
 sentence-lexes : (s : Sentence) → AreTokens (sentence_tokens s) → Lexes (sentence_text s) (sentence_tokens s)
-unfolding AreTokens
 sentence-lexes (constant_is x n) h = left refl (left refl (behind Constant) (a-mark Percent 0)) (right refl (a-name x h.1.1.0) (left refl equals (a-number n h.1.1.1.1.0)))
 sentence-lexes (namespace_of x n) h =
     left refl (behind Namespace) (right refl (a-name x h.1.0) (left refl (a-mark OpenParen 0) (right refl (size-lexes n (both (size_tokens n) (mark CloseParen ∷ []) h.1.1.1).0) (a-mark CloseParen 0))))
@@ -257,7 +245,6 @@ sentence-lexes (bus a b) h =
     right refl (tuples-lexes a parts.0) (left refl (around-word Is) (tuples-lexes b parts.1.1))
 
 text-lexes : (ss : List Sentence) → AreTokens (tokens_of ss) → Lexes (text_of ss) (tokens_of ss)
-unfolding AreTokens
 text-lexes [] h = none
 text-lexes (s ∷ ss) h =
     let parts = both (sentence_tokens s) (mark Semicolon ∷ tokens_of ss) h in

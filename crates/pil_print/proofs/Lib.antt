@@ -8,3 +8,5 @@ pub mod Meanings
 pub mod Roundtrip
 pub mod Unbroken
 pub mod Files
+pub mod Valid
+pub mod Short
