@@ -1,19 +1,37 @@
--- A file that is printed again means the same.
-use Rattle.std.proofs.Common.{◌≡◌, false, List, [], ap, ◌∙◌}
+-- What is printed of a file that is accepted is accepted, and means the same.
+use Rattle.std.proofs.Common.{◌≡◌, false, List, [], ap, sym, subst, ◌∙◌}
 use Rattle.pil_syntax.specs.Tree.{Sentence}
-use Rattle.pil_syntax.specs.Grammar.{limits, IsFile}
-use Rattle.pil_syntax.specs.Spelling.{tokens_of}
+use Rattle.pil_syntax.proofs.Printed.{dressing}
+use Rattle.pil_ast.specs.Term.{Namespace}
+use Rattle.pil_ast.specs.Sound.{IsSound}
 use Rattle.pil_names.specs.Outline.{outline_of}
 use Rattle.pil_names.specs.Wrongs.{repeated}
 use Rattle.pil_meaning.specs.Meaning.{meaning}
-use Rattle.pil_meaning.specs.Soundness.{HasNumbers, IsShort, IsUnbroken}
+use Rattle.pil_meaning.specs.Soundness.{HasNumbers, IsUnbroken}
 use Rattle.pil_meaning.proofs.Whole.{sound}
-use Rattle.pil_print.specs.Statements.{sentences_of}
+use Rattle.pil_print.specs.Laws.{IsAccepted, IsReprinted, KeepsMeaning}
 use Rattle.pil_print.proofs.Outlines.{outline-is}
 use Rattle.pil_print.proofs.Rereads.{meaning-again}
 use Rattle.pil_print.proofs.Meanings.{meaning-named, meaning-placed}
+use Rattle.pil_print.proofs.Unbroken.{unbroken-again, repeats-none}
+use Rattle.pil_print.proofs.Files.{file-again}
+use Rattle.pil_print.proofs.Valid.{meaning-names, tokens-again, numbers-again}
+use Rattle.pil_print.proofs.Short.{short-again}
 
-pub same_meaning : (ss : List Sentence) → IsFile limits false ss → HasNumbers (outline_of ss) → IsShort (tokens_of ss) → repeated (outline_of ss) ≡ [] → IsUnbroken (outline_of ss) → meaning (outline_of (sentences_of (meaning (outline_of ss)))) ≡ meaning (outline_of ss)
-same_meaning ss file numbers short new h =
-    ap meaning (outline-is (meaning (outline_of ss)))
-    ∙ meaning-again (meaning (outline_of ss)) (sound ss file numbers short h) (meaning-named (outline_of ss) new) (meaning-placed (outline_of ss) h.unknown)
+pub keeps_meaning : KeepsMeaning
+keeps_meaning ss h =
+    let ns : List Namespace = meaning (outline_of ss) in
+    let well : IsSound ns = sound ss h.file h.numbers h.short h.unbroken in
+    let named = meaning-named (outline_of ss) h.repeated in
+    let placed = meaning-placed (outline_of ss) h.unbroken.unknown in
+    record {
+      accepted = record {
+          tokens = tokens-again ns (meaning-names ss h.tokens) well;
+          file = file-again dressing ss h.file;
+          numbers = subst HasNumbers (sym (outline-is ns)) (numbers-again ns well);
+          short = short-again ns well;
+          repeated = ap repeated (outline-is ns) ∙ repeats-none ns named;
+          unbroken = subst IsUnbroken (sym (outline-is ns)) (unbroken-again ns well named placed);
+        };
+      same = ap meaning (outline-is ns) ∙ meaning-again ns well named placed;
+    }
