@@ -10,3 +10,4 @@ pub mod Unbroken
 pub mod Files
 pub mod Valid
 pub mod Short
+pub mod Moved
