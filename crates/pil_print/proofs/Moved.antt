@@ -333,3 +333,235 @@ module _ (hs : List Home) where
 
   pub meaning-same : meaning (plain (map unplaced_home hs)) ≡ meaning (plain hs)
   meaning-same = homes-same 0 hs
+
+-- lists of wrong places are as they are with each place at 0
+zeros-two : (xs ys : List ℕ) → zeros (xs ++ ys) ≡ zeros xs ++ zeros ys
+zeros-two xs ys = map-append at_zero xs ys
+
+zeros-join : (a b c d : List ℕ) → a ≡ zeros c → b ≡ zeros d → a ++ b ≡ zeros (c ++ d)
+zeros-join a b c d p q = join a b (zeros c) (zeros d) p q ∙ sym (zeros-two c d)
+
+zeros-unless : (b c : Bool) (at : ℕ) → b ≡ c → unless b 0 ≡ zeros (unless c at)
+zeros-unless b c at e = ap (λ x. unless x 0) e ∙ by c
+  where
+    by : (x : Bool) → unless x 0 ≡ zeros (unless x at)
+    by true = refl
+    by false = refl
+
+none-zeros : (xs : List ℕ) → zeros xs ≡ [] → xs ≡ []
+none-zeros [] e = refl
+none-zeros (x ∷ xs) e = let no : ⊥ = cc in absurd no
+
+flat-zeros : {X Y : Type 0} (f : X → List ℕ) (g : Y → List ℕ) (u : Y → X) → ((y : Y) → f (u y) ≡ zeros (g y)) → (ys : List Y) → flat_map f (map u ys) ≡ zeros (flat_map g ys)
+flat-zeros f g u e [] = refl
+flat-zeros f g u e (y ∷ ys) = zeros-join (f (u y)) (flat_map f (map u ys)) (g y) (flat_map g ys) (e y) (flat-zeros f g u e ys)
+
+each-zeros : (f g : ℕ → Home → List ℕ) → ((s : ℕ) (h : Home) → f s (unplaced_home h) ≡ zeros (g s h)) → (n : ℕ) (hs : List Home) → each_from f n (map unplaced_home hs) ≡ zeros (each_from g n hs)
+each-zeros f g e n [] = refl
+each-zeros f g e n (h ∷ hs) = zeros-join _ _ (g n h) (each_from g (n + 1) hs) (e n h) (each-zeros f g e (n + 1) hs)
+
+items-zeros : (f g : ℕ → Draft → List ℕ) (hs : List Home) → ((s : ℕ) (d : Draft) → f s (unplaced_draft d) ≡ zeros (g s d)) → each_item f (plain (map unplaced_home hs)) ≡ zeros (each_item g (plain hs))
+items-zeros f g hs e = each-zeros (λ s h. flat_map (f s) h.items) (λ s h. flat_map (g s) h.items) (λ s h. flat-zeros (f s) (g s) unplaced_draft (e s) h.items) 0 hs
+
+names-zeros : (P Q : Reference → List ℕ) (C D G H : Ident → List ℕ) → ((r : Reference) → P (unplaced_reference r) ≡ zeros (Q r)) → ((x : Ident) → C (unplaced_ident x) ≡ zeros (D x)) → ((x : Ident) → G (unplaced_ident x) ≡ zeros (H x)) → (e : Term) → each_name P C G (unplaced e) ≡ zeros (each_name Q D H e)
+names-zeros P Q C D G H p c g (num n) = refl
+names-zeros P Q C D G H p c g (col r) = p r
+names-zeros P Q C D G H p c g (constant x) = c x
+names-zeros P Q C D G H p c g (public x) = g x
+names-zeros P Q C D G H p c g (opp a) = names-zeros P Q C D G H p c g a
+names-zeros P Q C D G H p c g (group a) = names-zeros P Q C D G H p c g a
+names-zeros P Q C D G H p c g (a ⊕ b) = zeros-join _ _ (each_name Q D H a) (each_name Q D H b) (names-zeros P Q C D G H p c g a) (names-zeros P Q C D G H p c g b)
+names-zeros P Q C D G H p c g (a ⊖ b) = zeros-join _ _ (each_name Q D H a) (each_name Q D H b) (names-zeros P Q C D G H p c g a) (names-zeros P Q C D G H p c g b)
+names-zeros P Q C D G H p c g (a ⊗ b) = zeros-join _ _ (each_name Q D H a) (each_name Q D H b) (names-zeros P Q C D G H p c g a) (names-zeros P Q C D G H p c g b)
+
+length-of-unplaced : (d : Draft) → length_of (unplaced_draft d) ≡ option_map unplaced_number (length_of d)
+length-of-unplaced (column k d) = refl
+length-of-unplaced (defined x e) = refl
+length-of-unplaced (published x r n) = refl
+length-of-unplaced (equal a b) = refl
+length-of-unplaced (inside a b) = refl
+length-of-unplaced (against a b) = refl
+
+is-column-unplaced : (d : Draft) → is_column (unplaced_draft d) ≡ is_column d
+is-column-unplaced (column k d) = refl
+is-column-unplaced (defined x e) = refl
+is-column-unplaced (published x r n) = refl
+is-column-unplaced (equal a b) = refl
+is-column-unplaced (inside a b) = refl
+is-column-unplaced (against a b) = refl
+
+index-zeros : (at : ℕ) (n i : Option Number) → unknown_index 0 (option_map unplaced_number n) (option_map unplaced_number i) ≡ zeros (unknown_index at n i)
+index-zeros at None None = refl
+index-zeros at None (Some i) = refl
+index-zeros at (Some n) None = refl
+index-zeros at (Some n) (Some i) = zeros-unless (nat_lt i.value n.value) (nat_lt i.value n.value) i.at refl
+
+space-zeros : (x : Option Ident) → space_place (option_map unplaced_ident x) ≡ zeros (space_place x)
+space-zeros None = refl
+space-zeros (Some x) = refl
+
+none-of : (n : Option ℕ) → is_none (option_map at_zero n) ≡ is_none n
+none-of None = refl
+none-of (Some n) = refl
+
+module _ (hs : List Home) where
+  in-item-zeros : (m : ℕ) (r : Reference) (k : Option ℕ) → unknown_in_item (unplaced_reference r) (home_at (map unplaced_home hs) m).items k ≡ zeros (unknown_in_item r (home_at hs m).items k)
+  in-item-zeros m r None = refl
+  in-item-zeros m r (Some k) =
+      ap (λ (h : Home). unknown_index 0 (length_of (draft_at h.items k)) (option_map unplaced_number r.index)) (home-unplaced hs m)
+      ∙ (ap (λ (d : Draft). unknown_index 0 (length_of d) (option_map unplaced_number r.index)) (draft-unplaced (home_at hs m).items k)
+          ∙ (ap (λ n. unknown_index 0 n (option_map unplaced_number r.index)) (length-of-unplaced (draft_at (home_at hs m).items k)) ∙ index-zeros r.name.at (length_of (draft_at (home_at hs m).items k)) r.index))
+
+  in-home-zeros : (r : Reference) (m : Option ℕ) → unknown_in_home (plain (map unplaced_home hs)) (unplaced_reference r) m ≡ zeros (unknown_in_home (plain hs) r m)
+  in-home-zeros r None = space-zeros r.space
+  in-home-zeros r (Some m) = ap (unknown_in_item (unplaced_reference r) (home_at (map unplaced_home hs) m).items) (item-same hs m r) ∙ in-item-zeros m r (item_named (plain hs) m r)
+
+  reference-zeros : (s : ℕ) (r : Reference) → unknown_reference (plain (map unplaced_home hs)) s (unplaced_reference r) ≡ zeros (unknown_reference (plain hs) s r)
+  reference-zeros s r = ap (unknown_in_home (plain (map unplaced_home hs)) (unplaced_reference r)) (home-same hs s r.space) ∙ in-home-zeros r (home_named (plain hs) s r.space)
+
+  constant-zeros : (x : Ident) → unknown_constant (plain (map unplaced_home hs)) (unplaced_ident x) ≡ zeros (unknown_constant (plain hs) x)
+  constant-zeros x = refl
+
+  public-zeros : (x : Ident) → unknown_public (plain (map unplaced_home hs)) (unplaced_ident x) ≡ zeros (unknown_public (plain hs) x)
+  public-zeros x = zeros-unless _ (is_some (found x.name (public_entries (plain hs)))) x.at (ap is_some (found-public x.name hs))
+
+  term-zeros : (s : ℕ) (e : Term) → unknown_in_term (plain (map unplaced_home hs)) s (unplaced e) ≡ zeros (unknown_in_term (plain hs) s e)
+  term-zeros s e = names-zeros _ _ _ _ _ _ (reference-zeros s) constant-zeros public-zeros e
+
+  public-item-same : (m : ℕ) (k : Option ℕ) → is_public_item (home_at (map unplaced_home hs) m).items k ≡ is_public_item (home_at hs m).items k
+  public-item-same m None = refl
+  public-item-same m (Some k) =
+      ap (λ (h : Home). is_column (draft_at h.items k)) (home-unplaced hs m) ∙ (ap is_column (draft-unplaced (home_at hs m).items k) ∙ is-column-unplaced (draft_at (home_at hs m).items k))
+
+  public-in-same : (r : Reference) (m : Option ℕ) → is_public_in (plain (map unplaced_home hs)) (unplaced_reference r) m ≡ is_public_in (plain hs) r m
+  public-in-same r None = refl
+  public-in-same r (Some m) = ap (is_public_item (home_at (map unplaced_home hs) m).items) (item-same hs m r) ∙ public-item-same m (item_named (plain hs) m r)
+
+  published-zeros : (s : ℕ) (r : Reference) → unknown_published (plain (map unplaced_home hs)) s (unplaced_reference r) ≡ zeros (unknown_published (plain hs) s r)
+  published-zeros s r =
+      zeros-unless _ (is_none r.next && is_public_in (plain hs) r (home_named (plain hs) s r.space)) r.name.at
+      (ap (λ b. b && is_public_in (plain (map unplaced_home hs)) (unplaced_reference r) (home_named (plain (map unplaced_home hs)) s (option_map unplaced_ident r.space))) (none-of r.next)
+          ∙ ap (λ b. is_none r.next && b) (ap (is_public_in (plain (map unplaced_home hs)) (unplaced_reference r)) (home-same hs s r.space) ∙ public-in-same r (home_named (plain hs) s r.space)))
+
+  in-public-zeros : (s : ℕ) (d : Draft) → unknown_in_public (plain (map unplaced_home hs)) s (unplaced_draft d) ≡ zeros (unknown_in_public (plain hs) s d)
+  in-public-zeros s (column k d) = refl
+  in-public-zeros s (defined x e) = refl
+  in-public-zeros s (published x r n) = zeros-join _ _ (unknown_reference (plain hs) s r) (unknown_published (plain hs) s r) (reference-zeros s r) (published-zeros s r)
+  in-public-zeros s (equal a b) = refl
+  in-public-zeros s (inside a b) = refl
+  in-public-zeros s (against a b) = refl
+
+  draft-zeros : (f g : Term → List ℕ) → ((e : Term) → f (unplaced e) ≡ zeros (g e)) → (d : Draft) → flat_map f (terms_of (unplaced_draft d)) ≡ zeros (flat_map g (terms_of d))
+  draft-zeros f g e d = ap (flat_map f) (terms-unplaced d) ∙ flat-zeros f g unplaced e (terms_of d)
+
+  size-zeros : (n : Size) → unknown_in_size (plain (map unplaced_home hs)) (unplaced_size n) ≡ zeros (unknown_in_size (plain hs) n)
+  size-zeros (sizes.Number n) = refl
+  size-zeros (sizes.Constant x) = refl
+
+  pub unknown-zeros : unknown (plain (map unplaced_home hs)) ≡ zeros (unknown (plain hs))
+  unknown-zeros =
+      zeros-join _ _ (flat_map (λ (h : Home). unknown_in_size (plain hs) h.size) hs) (each_item (unknown_in_draft (plain hs)) (plain hs))
+      (flat-zeros (λ (h : Home). unknown_in_size (plain (map unplaced_home hs)) h.size) (λ (h : Home). unknown_in_size (plain hs) h.size) unplaced_home (λ h. size-zeros h.size) hs)
+      (items-zeros (unknown_in_draft (plain (map unplaced_home hs))) (unknown_in_draft (plain hs)) hs
+          (λ s d. zeros-join _ _ (unknown_in_public (plain hs) s d) (flat_map (unknown_in_term (plain hs) s) (terms_of d)) (in-public-zeros s d) (draft-zeros (unknown_in_term (plain (map unplaced_home hs)) s) (unknown_in_term (plain hs) s) (term-zeros s) d)))
+
+  bad-size-zeros : (n : Size) → bad_size (plain (map unplaced_home hs)) (unplaced_size n) ≡ zeros (bad_size (plain hs) n)
+  bad-size-zeros (sizes.Number n) = zeros-unless _ (nat_lt 0 n.value && nat_le n.value (2 ^ 24)) n.at refl
+  bad-size-zeros (sizes.Constant x) = refl
+
+  bad-row-zeros : (n : Number) (m : Option ℕ) → bad_public_row (plain (map unplaced_home hs)) (unplaced_number n) m ≡ zeros (bad_public_row (plain hs) n m)
+  bad-row-zeros n None = refl
+  bad-row-zeros n (Some m) =
+      zeros-unless _ (nat_lt n.value (rows_of (plain hs) (home_at hs m).size)) n.at
+      (ap (λ (h : Home). nat_lt n.value (rows_of (plain (map unplaced_home hs)) h.size)) (home-unplaced hs m) ∙ ap (nat_lt n.value) (rows-same hs (home_at hs m).size))
+
+  row-zeros : (s : ℕ) (d : Draft) → bad_row_of_draft (plain (map unplaced_home hs)) s (unplaced_draft d) ≡ zeros (bad_row_of_draft (plain hs) s d)
+  row-zeros s (column k d) = refl
+  row-zeros s (defined x e) = refl
+  row-zeros s (published x r n) = ap (bad_public_row (plain (map unplaced_home hs)) (unplaced_number n)) (home-same hs s r.space) ∙ bad-row-zeros n (home_named (plain hs) s r.space)
+  row-zeros s (equal a b) = refl
+  row-zeros s (inside a b) = refl
+  row-zeros s (against a b) = refl
+
+  pub bad-rows-zeros : bad_rows (plain (map unplaced_home hs)) ≡ zeros (bad_rows (plain hs))
+  bad-rows-zeros =
+      zeros-join _ _ (flat_map (λ (h : Home). bad_size (plain hs) h.size) hs) (each_item (bad_row_of_draft (plain hs)) (plain hs))
+      (flat-zeros (λ (h : Home). bad_size (plain (map unplaced_home hs)) h.size) (λ (h : Home). bad_size (plain hs) h.size) unplaced_home (λ h. bad-size-zeros h.size) hs)
+      (items-zeros (bad_row_of_draft (plain (map unplaced_home hs))) (bad_row_of_draft (plain hs)) hs row-zeros)
+
+  stray-zeros : (s m : ℕ) (r : Reference) → stray (plain (map unplaced_home hs)) s m (unplaced_reference r) ≡ zeros (stray (plain hs) s m r)
+  stray-zeros s m r = zeros-unless _ (nat_eq (home_or (plain hs) s r) m) r.name.at (ap (λ h. nat_eq (unwrap_or h s) m) (home-same hs s r.space))
+
+  strays-zeros : (s m : ℕ) (es : List Term) → strays (plain (map unplaced_home hs)) s m (map unplaced es) ≡ zeros (strays (plain hs) s m es)
+  strays-zeros s m es = ap (flat_map (stray (plain (map unplaced_home hs)) s m)) (references-all es) ∙ flat-zeros (stray (plain (map unplaced_home hs)) s m) (stray (plain hs) s m) unplaced_reference (stray-zeros s m) (flat_map references es)
+
+  mixed-in-zeros : (s : ℕ) (es : List Term) → mixed_in (plain (map unplaced_home hs)) s (map unplaced es) ≡ zeros (mixed_in (plain hs) s es)
+  mixed-in-zeros s es = ap (λ m. strays (plain (map unplaced_home hs)) s m (map unplaced es)) (home-of-same hs s es) ∙ strays-zeros s (home_of_terms (plain hs) s es) es
+
+  list-zeros : (s : ℕ) (l : Tuple) → mixed_in (plain (map unplaced_home hs)) s (terms_of_list (unplaced_tuple l)) ≡ zeros (mixed_in (plain hs) s (terms_of_list l))
+  list-zeros s l = ap (mixed_in (plain (map unplaced_home hs)) s) (list-terms l) ∙ mixed-in-zeros s (terms_of_list l)
+
+  mixed-draft-zeros : (s : ℕ) (d : Draft) → mixed_in_draft (plain (map unplaced_home hs)) s (unplaced_draft d) ≡ zeros (mixed_in_draft (plain hs) s d)
+  mixed-draft-zeros s (column k d) = refl
+  mixed-draft-zeros s (defined x e) = strays-zeros s s (e ∷ [])
+  mixed-draft-zeros s (published x r n) = refl
+  mixed-draft-zeros s (equal a b) = mixed-in-zeros s (a ∷ b ∷ [])
+  mixed-draft-zeros s (inside a b) = zeros-join _ _ (mixed_in (plain hs) s (terms_of_list a)) (mixed_in (plain hs) s (terms_of_list b)) (list-zeros s a) (list-zeros s b)
+  mixed-draft-zeros s (against ls rs) =
+      zeros-join _ _ (flat_map (λ l. mixed_in (plain hs) s (terms_of_list l)) ls) (flat_map (λ l. mixed_in (plain hs) s (terms_of_list l)) rs)
+      (flat-zeros (λ l. mixed_in (plain (map unplaced_home hs)) s (terms_of_list l)) (λ l. mixed_in (plain hs) s (terms_of_list l)) unplaced_tuple (list-zeros s) ls)
+      (flat-zeros (λ l. mixed_in (plain (map unplaced_home hs)) s (terms_of_list l)) (λ l. mixed_in (plain hs) s (terms_of_list l)) unplaced_tuple (list-zeros s) rs)
+
+  pub mixed-zeros : mixed (plain (map unplaced_home hs)) ≡ zeros (mixed (plain hs))
+  mixed-zeros = items-zeros (mixed_in_draft (plain (map unplaced_home hs))) (mixed_in_draft (plain hs)) hs mixed-draft-zeros
+
+  length-zeros : (n : Option Number) → wrong_length (option_map unplaced_number n) ≡ zeros (wrong_length n)
+  length-zeros None = refl
+  length-zeros (Some n) = zeros-unless _ (nat_lt 0 n.value && nat_le n.value 4096) n.at refl
+
+  width-zeros : (n : ℕ) (l : Tuple) → other_width n (unplaced_tuple l) ≡ zeros (other_width n l)
+  width-zeros n l = zeros-unless _ (nat_eq (length l.entries) n) l.at (ap (λ k. nat_eq k n) (length-map l.entries unplaced))
+
+  width-of-first : (ls : List Tuple) → width_of_first (map unplaced_tuple ls) ≡ width_of_first ls
+  width-of-first [] = refl
+  width-of-first (l ∷ ls) = length-map l.entries unplaced
+
+  widths-zeros : (m n : ℕ) (ls : List Tuple) → m ≡ n → other_widths m (map unplaced_tuple ls) ≡ zeros (other_widths n ls)
+  widths-zeros m n ls e = ap (λ k. other_widths k (map unplaced_tuple ls)) e ∙ flat-zeros (other_width n) (other_width n) unplaced_tuple (width-zeros n) ls
+
+  wide-draft-zeros : (d : Draft) → wrong_widths_of (unplaced_draft d) ≡ zeros (wrong_widths_of d)
+  wide-draft-zeros (column k d) = length-zeros d.length
+  wide-draft-zeros (defined x e) = refl
+  wide-draft-zeros (published x r n) = refl
+  wide-draft-zeros (equal a b) = refl
+  wide-draft-zeros (inside a b) = ap (λ n. other_width n (unplaced_tuple b)) (length-map a.entries unplaced) ∙ width-zeros (length a.entries) b
+  wide-draft-zeros (against ls rs) =
+      zeros-join _ _ (other_widths (width_of_first ls) ls) (other_widths (width_of_first ls) rs) (widths-zeros _ _ ls (width-of-first ls)) (widths-zeros _ _ rs (width-of-first ls))
+
+  pub widths-are-zeros : wrong_widths (plain (map unplaced_home hs)) ≡ zeros (wrong_widths (plain hs))
+  widths-are-zeros = items-zeros (λ s d. wrong_widths_of d) (λ s d. wrong_widths_of d) hs (λ s d. wide-draft-zeros d)
+
+  double-of-zeros : (ns : List Namespace) (t : ast.Term) (at : ℕ) → double_of ns t 0 ≡ zeros (double_of ns t at)
+  double-of-zeros ns (ast.num n) at = refl
+  double-of-zeros ns (ast.col m k b) at = refl
+  double-of-zeros ns (ast.mid m k b) at = zeros-unless _ _ at refl
+  double-of-zeros ns (ast.public k) at = refl
+  double-of-zeros ns (ast.opp a) at = refl
+  double-of-zeros ns (ast.◌⊕◌ a b) at = refl
+  double-of-zeros ns (ast.◌⊖◌ a b) at = refl
+  double-of-zeros ns (ast.◌⊗◌ a b) at = refl
+
+  double-at-zeros : (ns : List Namespace) (t : ast.Term) (n : Option ℕ) → double_at ns t (option_map at_zero n) ≡ zeros (double_at ns t n)
+  double-at-zeros ns t None = refl
+  double-at-zeros ns t (Some n) = double-of-zeros ns t n
+
+  double-reference-zeros : (s : ℕ) (r : Reference) → double_reference (plain (map unplaced_home hs)) s (unplaced_reference r) ≡ zeros (double_reference (plain hs) s r)
+  double-reference-zeros s r =
+      ap (λ ns. double_at ns (read_reference (plain (map unplaced_home hs)) s (unplaced_reference r)) (option_map at_zero r.next)) (meaning-same hs)
+      ∙ (ap (λ t. double_at (meaning (plain hs)) t (option_map at_zero r.next)) (reference-same hs s r) ∙ double-at-zeros (meaning (plain hs)) (read_reference (plain hs) s r) r.next)
+
+  pub double-zeros : double (plain (map unplaced_home hs)) ≡ zeros (double (plain hs))
+  double-zeros =
+      items-zeros (double_in_draft (plain (map unplaced_home hs))) (double_in_draft (plain hs)) hs
+      (λ s d. draft-zeros (double_in_term (plain (map unplaced_home hs)) s) (double_in_term (plain hs) s) (λ e. names-zeros _ _ _ _ _ _ (double-reference-zeros s) (λ x. refl) (λ x. refl) e) d)
+
