@@ -21,7 +21,7 @@ use Rattle.pil_print.proofs.Outlines.{draft, home, outline, IsNamed, names-of-pu
 use Rattle.pil_print.proofs.Rereads.{spaces_in, first_or, sel_terms, IsPlacedList, IsPlaced, ArePlaced, first-home, joined-same}
 
 -- names that don't repeat don't at other places either
-abbrev bytes_of : Ident → List ℕ
+abbrev pub bytes_of : Ident → List ℕ
 bytes_of x = x.name
 
 stands-same : (x : List ℕ) (bs cs : List Ident) → map bytes_of bs ≡ map bytes_of cs → stands x bs ≡ stands x cs
@@ -51,7 +51,7 @@ names-numbered : (n : ℕ) (xs : List Ident) → map (λ (e : Entry). e.name) (n
 names-numbered n [] = refl
 names-numbered n (x ∷ xs) = ap (λ ys. x ∷ ys) (names-numbered (n + 1) xs)
 
-numbered-same : (xs ys : List Ident) → map bytes_of xs ≡ map bytes_of ys → repeated_among (numbered 0 xs) ≡ [] → repeated_among (numbered 0 ys) ≡ []
+pub numbered-same : (xs ys : List Ident) → map bytes_of xs ≡ map bytes_of ys → repeated_among (numbered 0 xs) ≡ [] → repeated_among (numbered 0 ys) ≡ []
 numbered-same xs ys e h = ap (repeats []) (names-numbered 0 ys) ∙ repeats-same [] [] xs ys refl e (sym (ap (repeats []) (names-numbered 0 xs)) ∙ h)
 
 home-names : (o : Outline) (ns : List Namespace) (n : ℕ) (hs : List Home) → map bytes_of (map (λ (h : Home). h.name) hs) ≡ map bytes_of (map (λ (h : Home). h.name) (map (home ns) (read_homes o n hs)))

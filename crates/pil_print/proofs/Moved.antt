@@ -14,13 +14,17 @@ use Rattle.pil_syntax.specs.declared.tree.Size.TheVariants as sizes
 use Rattle.pil_syntax.specs.Tree.{Term, num, col, constant, public, opp, group, ◌⊕◌, ◌⊖◌, ◌⊗◌, Filter, every, by_col, by_group, Tuple, Sentence, constant_is, namespace_of, columns, intermediate, public_is, identity, lookup, bus}
 use Rattle.pil_syntax.specs.Placeless.{at_zero, unplaced_ident, unplaced_number, unplaced_reference, unplaced, unplaced_filter, unplaced_tuple, unplaced_declaration, unplaced_size, unplaced_sentence}
 use Rattle.pil_ast.specs.Term as ast
-use Rattle.pil_ast.specs.Term.{Namespace}
+use Rattle.pil_ast.specs.Term.{Namespace, space_at}
 use Rattle.pil_names.specs.Outline.{Named, Draft, column, defined, published, equal, inside, against, Home, Outline, constants_of, drafts_of, items_before, homes_of, outline_of, home_at, draft_at}
 use Rattle.pil_names.specs.Finding.{Entry, found, numbered, home_entries, published_name, public_names, public_entries, polynomials_from, polynomial_entries, home_named, item_named}
 use Rattle.pil_names.specs.Wrongs.{each_from, each_item, unless, each_name, selectors_of, terms_of, terms_of_list, repeats, repeated_among, repeated, unknown, unknown_index, length_of, unknown_in_item, unknown_in_home, unknown_reference, unknown_constant, unknown_public, space_place, is_column, is_public_item, is_public_in, unknown_published, unknown_in_size, unknown_in_term, unknown_in_public, unknown_in_draft, bad_size, bad_public_row, bad_row_of_draft, bad_rows, rows_of, references, home_or, first_home, home_of_terms, stray, strays, mixed_in, mixed_in_draft, mixed, wrong_length, other_width, other_widths, width_of_first, wrong_widths_of, wrong_widths}
 use Rattle.pil_meaning.specs.Meaning.{length_or_one, constant_columns, committed_columns, start_of_kind, number_or_zero, named_item, read_in, read_reference, read_term, read_filter, read_tuple, length_number, column_number, read_draft, read_home, read_homes, meaning}
 use Rattle.pil_meaning.specs.Marks.{double_of, double_at, double_reference, double_in_term, double_in_draft, double}
+use Rattle.pil_meaning.specs.Soundness.{IsUnbroken}
 use Rattle.pil_meaning.proofs.Mapped.{same-tuples}
+use Rattle.pil_meaning.proofs.Nothing.{left_nil, right_nil}
+use Rattle.pil_ast.specs.Sound.{IsAcyclic}
+use Rattle.pil_print.proofs.Meanings.{bytes_of, numbered-same, repeats-same}
 
 abbrev pub unplaced_draft : Draft → Draft
 unplaced_draft (column k d) = column k (unplaced_declaration d)
@@ -565,3 +569,96 @@ module _ (hs : List Home) where
       items-zeros (double_in_draft (plain (map unplaced_home hs))) (double_in_draft (plain hs)) hs
       (λ s d. draft-zeros (double_in_term (plain (map unplaced_home hs)) s) (double_in_term (plain hs) s) (λ e. names-zeros _ _ _ _ _ _ (double-reference-zeros s) (λ x. refl) (λ x. refl) e) d)
 
+
+-- repeated names
+bytes-unplaced : (xs : List Ident) → map bytes_of (map unplaced_ident xs) ≡ map bytes_of xs
+bytes-unplaced [] = refl
+bytes-unplaced (x ∷ xs) = ap (λ ys. x.name ∷ ys) (bytes-unplaced xs)
+
+home-bytes : (hs : List Home) → map bytes_of (map (λ (h : Home). h.name) (map unplaced_home hs)) ≡ map bytes_of (map (λ (h : Home). h.name) hs)
+home-bytes [] = refl
+home-bytes (h ∷ hs) = ap (λ xs. h.name.name ∷ xs) (home-bytes hs)
+
+public-bytes : (hs : List Home) → map bytes_of (public_names (map unplaced_home hs)) ≡ map bytes_of (public_names hs)
+public-bytes hs = ap (map bytes_of) (publics-unplaced hs) ∙ bytes-unplaced (public_names hs)
+
+polynomial-bytes : (n : ℕ) (ds : List Draft) → map bytes_of (map (λ (e : Entry). e.name) (polynomials_from n (map unplaced_draft ds))) ≡ map bytes_of (map (λ (e : Entry). e.name) (polynomials_from n ds))
+polynomial-bytes n [] = refl
+polynomial-bytes n (column k d ∷ ds) = ap (λ xs. d.name.name ∷ xs) (polynomial-bytes (n + 1) ds)
+polynomial-bytes n (defined x e ∷ ds) = ap (λ xs. x.name ∷ xs) (polynomial-bytes (n + 1) ds)
+polynomial-bytes n (published x r m ∷ ds) = polynomial-bytes (n + 1) ds
+polynomial-bytes n (equal a b ∷ ds) = polynomial-bytes (n + 1) ds
+polynomial-bytes n (inside a b ∷ ds) = polynomial-bytes (n + 1) ds
+polynomial-bytes n (against a b ∷ ds) = polynomial-bytes (n + 1) ds
+
+abbrev polynomials_repeated : Home → List ℕ
+polynomials_repeated h = repeated_among (polynomial_entries h)
+
+nil-join : (a b : List ℕ) → a ≡ [] → b ≡ [] → a ++ b ≡ []
+nil-join a b p q = ap (λ s. s ++ b) p ∙ q
+
+forth-homes : (hs : List Home) → flat_map polynomials_repeated hs ≡ [] → flat_map polynomials_repeated (map unplaced_home hs) ≡ []
+forth-homes [] e = refl
+forth-homes (h ∷ hs) e =
+    nil-join _ _ (repeats-same [] [] (map (λ (e : Entry). e.name) (polynomials_from 0 h.items)) (map (λ (e : Entry). e.name) (polynomials_from 0 (map unplaced_draft h.items))) refl (sym (polynomial-bytes 0 h.items)) (left_nil (polynomials_repeated h) (flat_map polynomials_repeated hs) e))
+    (forth-homes hs (right_nil (polynomials_repeated h) (flat_map polynomials_repeated hs) e))
+
+back-homes : (hs : List Home) → flat_map polynomials_repeated (map unplaced_home hs) ≡ [] → flat_map polynomials_repeated hs ≡ []
+back-homes [] e = refl
+back-homes (h ∷ hs) e =
+    nil-join _ _ (repeats-same [] [] (map (λ (e : Entry). e.name) (polynomials_from 0 (map unplaced_draft h.items))) (map (λ (e : Entry). e.name) (polynomials_from 0 h.items)) refl (polynomial-bytes 0 h.items) (left_nil (polynomials_repeated (unplaced_home h)) (flat_map polynomials_repeated (map unplaced_home hs)) e))
+    (back-homes hs (right_nil (polynomials_repeated (unplaced_home h)) (flat_map polynomials_repeated (map unplaced_home hs)) e))
+
+pub repeated-forth : (hs : List Home) → repeated (plain hs) ≡ [] → repeated (plain (map unplaced_home hs)) ≡ []
+repeated-forth hs h =
+    let second = right_nil (repeated_among (home_entries (plain hs))) (repeated_among (public_entries (plain hs)) ++ flat_map polynomials_repeated hs) h in
+    nil-join _ _ (numbered-same (map (λ (k : Home). k.name) hs) (map (λ (k : Home). k.name) (map unplaced_home hs)) (sym (home-bytes hs)) (left_nil (repeated_among (home_entries (plain hs))) (repeated_among (public_entries (plain hs)) ++ flat_map polynomials_repeated hs) h))
+    (nil-join _ _ (numbered-same (public_names hs) (public_names (map unplaced_home hs)) (sym (public-bytes hs)) (left_nil (repeated_among (public_entries (plain hs))) (flat_map polynomials_repeated hs) second))
+        (forth-homes hs (right_nil (repeated_among (public_entries (plain hs))) (flat_map polynomials_repeated hs) second)))
+
+pub repeated-back : (hs : List Home) → repeated (plain (map unplaced_home hs)) ≡ [] → repeated (plain hs) ≡ []
+repeated-back hs h =
+    let us = map unplaced_home hs in
+    let second = right_nil (repeated_among (home_entries (plain us))) (repeated_among (public_entries (plain us)) ++ flat_map polynomials_repeated us) h in
+    nil-join _ _ (numbered-same (map (λ (k : Home). k.name) (map unplaced_home hs)) (map (λ (k : Home). k.name) hs) (home-bytes hs) (left_nil (repeated_among (home_entries (plain us))) (repeated_among (public_entries (plain us)) ++ flat_map polynomials_repeated us) h))
+    (nil-join _ _ (numbered-same (public_names (map unplaced_home hs)) (public_names hs) (public-bytes hs) (left_nil (repeated_among (public_entries (plain us))) (flat_map polynomials_repeated us) second))
+        (back-homes hs (right_nil (repeated_among (public_entries (plain us))) (flat_map polynomials_repeated us) second)))
+
+-- namespaces that differ in places alone
+module _ (hs ks : List Home) (alike : map unplaced_home ks ≡ map unplaced_home hs) where
+  moved-meaning : meaning (plain ks) ≡ meaning (plain hs)
+  moved-meaning = sym (meaning-same ks) ∙ ap (λ us. meaning (plain us)) alike ∙ meaning-same hs
+
+  moved-none : (f : Outline → List ℕ) → ((gs : List Home) → f (plain (map unplaced_home gs)) ≡ zeros (f (plain gs))) → f (plain hs) ≡ [] → f (plain ks) ≡ []
+  moved-none f e h = none-zeros (f (plain ks)) (sym (e ks) ∙ ap (λ us. f (plain us)) alike ∙ e hs ∙ ap zeros h)
+
+  moved-unbroken : IsUnbroken (plain hs) → IsUnbroken (plain ks)
+  moved-unbroken h = record {
+    unknown = moved-none unknown unknown-zeros h.unknown;
+    bad_rows = moved-none bad_rows bad-rows-zeros h.bad_rows;
+    mixed = moved-none mixed mixed-zeros h.mixed;
+    wrong_widths = moved-none wrong_widths widths-are-zeros h.wrong_widths;
+    acyclic = subst (λ ns. (s : ℕ) → IsAcyclic (space_at ns s).items) (sym moved-meaning) h.acyclic;
+    double = moved-none double double-zeros h.double;
+  }
+
+  moved-repeated : repeated (plain hs) ≡ [] → repeated (plain ks) ≡ []
+  moved-repeated h = repeated-back ks (subst (λ us. repeated (plain us) ≡ []) (sym alike) (repeated-forth hs h))
+
+no-constants : (cs : List Named) → map unplaced_named cs ≡ [] → cs ≡ []
+no-constants [] e = refl
+no-constants (c ∷ cs) e = let no : ⊥ = cc in absurd no
+
+plain-outline : (ss : List Sentence) → flat_map constants_of ss ≡ [] → outline_of ss ≡ plain (homes_of ss)
+plain-outline ss e = ap (λ cs. let o : Outline = record { constants = cs; homes = homes_of ss } in o) e
+
+pub ignores-places : (ss qs : List Sentence) → flat_map constants_of ss ≡ [] → map unplaced_sentence qs ≡ map unplaced_sentence ss → repeated (outline_of ss) ≡ [] → IsUnbroken (outline_of ss)
+    → (meaning (outline_of qs) ≡ meaning (outline_of ss)) × (repeated (outline_of qs) ≡ []) × IsUnbroken (outline_of qs)
+ignores-places ss qs none alike new h =
+    let none' : flat_map constants_of qs ≡ [] = no-constants (flat_map constants_of qs) (sym (constants-unplaced qs) ∙ ap (flat_map constants_of) alike ∙ constants-unplaced ss ∙ ap (map unplaced_named) none) in
+    let homes : map unplaced_home (homes_of qs) ≡ map unplaced_home (homes_of ss) = sym (homes-unplaced qs) ∙ ap homes_of alike ∙ homes-unplaced ss in
+    let o = plain-outline ss none in
+    let o' = plain-outline qs none' in
+    (ap meaning o' ∙ moved-meaning (homes_of ss) (homes_of qs) homes ∙ sym (ap meaning o),
+        subst (λ p. repeated p ≡ []) (sym o') (moved-repeated (homes_of ss) (homes_of qs) homes (subst (λ p. repeated p ≡ []) o new)),
+        subst IsUnbroken (sym o') (moved-unbroken (homes_of ss) (homes_of qs) homes (subst IsUnbroken o h)))
