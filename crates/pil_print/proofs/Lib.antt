@@ -11,3 +11,4 @@ pub mod Files
 pub mod Valid
 pub mod Short
 pub mod Moved
+pub mod Readings

@@ -7,12 +7,14 @@ use Rattle.pil_syntax.specs.Tree.{Sentence}
 use Rattle.pil_syntax.specs.Spelling.{tokens_of}
 use Rattle.pil_syntax.specs.Grammar.{limits, IsFile}
 use Rattle.pil_syntax.specs.Placeless.{token_of}
+use Rattle.pil_syntax.specs.Refusal.{Reads}
+use Rattle.pil_ast.specs.Term.{Namespace}
 use Rattle.pil_names.specs.Outline.{outline_of}
 use Rattle.pil_names.specs.Wrongs.{repeated}
 use Rattle.pil_meaning.specs.Meaning.{meaning}
 use Rattle.pil_meaning.specs.Soundness.{HasNumbers, IsShort, IsUnbroken}
 use Rattle.pil_print.specs.Statements.{sentences_of}
-use Rattle.pil_print.specs.Printed.{text_of}
+use Rattle.pil_print.specs.Printed.{text_of, printed}
 
 -- the text of statements has their tokens, which may stand at other places
 abbrev pub IsReadAsTokens : Type 0
@@ -34,3 +36,17 @@ pub record IsReprinted (ss : List Sentence) : Type 0 where
 
 abbrev pub KeepsMeaning : Type 0
 KeepsMeaning = (ss : List Sentence) → IsAccepted ss → IsReprinted ss
+
+-- the printed text of a meaning is read as statements within the limits, which break no rule and have this meaning
+pub record IsReadBack (ns : List Namespace) : Type 0 where
+  pub tokens : List Placed
+  pub statements : List Sentence
+  pub lexed : lexed (printed ns) ≡ Ok tokens
+  pub reads : Reads limits tokens statements
+  pub short : IsShort tokens
+  pub repeated : repeated (outline_of statements) ≡ []
+  pub unbroken : IsUnbroken (outline_of statements)
+  pub same : meaning (outline_of statements) ≡ ns
+
+abbrev pub ReadsBack : Type 0
+ReadsBack = (ss : List Sentence) → IsAccepted ss → IsReadBack (meaning (outline_of ss))

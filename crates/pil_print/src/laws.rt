@@ -1,5 +1,5 @@
 //! What is true of every printed text.
-ghost use Rattle.pil_print.specs.Laws.{IsReadAsTokens, KeepsMeaning};
+ghost use Rattle.pil_print.specs.Laws.{IsReadAsTokens, KeepsMeaning, ReadsBack};
 
 /// The law of printed tokens: where the names of statements are names and their numbers are below the
 /// order of the field, their text has their tokens and no others. The call computes nothing.
@@ -11,4 +11,10 @@ pub fn printed_tokens()
 /// what that text means. The call computes nothing.
 pub fn printed_meaning()
     ensures meaning { KeepsMeaning }
+{}
+
+/// The law of reading back: the printed text of what a text means that is accepted has tokens, which
+/// are a file within the limits that breaks no rule and means the same. The call computes nothing.
+pub fn printed_text()
+    ensures text { ReadsBack }
 {}
