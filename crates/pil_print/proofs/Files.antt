@@ -1,7 +1,6 @@
 -- A printed text is a file within the limits of what was read.
-use Rattle.std.proofs.Common.{ℕ, ◌≡◌, ◌≤◌, ◌+◌, List, [], ◌∷◌, ◌++◌, Bool, true, false, max, length, map, Option, Some, None, refl, sym, ap, subst, ◌∙◌, arith, All}
+use Rattle.std.proofs.Common.{ℕ, ◌≡◌, ◌+◌, List, [], ◌∷◌, ◌++◌, Bool, true, false, max, map, Option, Some, None, refl, sym, ap, subst, ◌∙◌, arith, All}
 use Rattle.std.specs.Prelude.{flat_map}
-use Rattle.std.proofs.lemmas.List.{append-nil}
 use Rattle.std.proofs.lemmas.List.Elements.{All-nil, All-cons, All-head, All-tail, All-append}
 use Rattle.pil_syntax.specs.declared.tree.Number.{Number}
 use Rattle.pil_syntax.specs.declared.tree.Reference.{Reference}
@@ -9,14 +8,13 @@ use Rattle.pil_syntax.specs.declared.tree.Declaration.{Declaration}
 use Rattle.pil_syntax.specs.declared.tree.ColumnKind.{ColumnKind}
 use Rattle.pil_syntax.specs.declared.tree.ColumnKind.TheVariants.{Constant, Commit}
 use Rattle.pil_syntax.specs.Tree.{Term, num, col, constant, public, opp, group, ◌⊕◌, ◌⊖◌, ◌⊗◌, Filter, every, by_col, by_group, Tuple, Sentence, constant_is, namespace_of, columns, intermediate, public_is, identity, lookup, bus}
-use Rattle.pil_syntax.specs.Grammar.{Level, expr, term, fact, nesting, operators, Limits, limits, IsWhole, IsFilter, EachOf, IsTuple, IsSentence, IsFile}
+use Rattle.pil_syntax.specs.Grammar.{Level, expr, term, fact, nesting, operators, limits, IsWhole, IsFilter, EachOf, IsTuple, IsSentence, IsFile}
 use Rattle.pil_syntax.specs.Printing.{bare, dressed, IsDressing}
-use Rattle.pil_ast.specs.Term as ast
-use Rattle.pil_ast.specs.Term.{Namespace, Line, space_at}
+use Rattle.pil_ast.specs.Term.{Namespace}
 use Rattle.pil_names.specs.Outline.{Draft, column, defined, published, equal, inside, against, Home, Outline, drafts_of, items_before, homes_of, outline_of, home_at, draft_at}
-use Rattle.pil_names.specs.Finding.{home_named, item_named}
-use Rattle.pil_meaning.specs.Meaning.{named_item, read_in, read_reference, read_term, read_filter, read_tuple, read_draft, read_homes, meaning}
-use Rattle.pil_print.specs.Statements.{ident, numeral, named, expression, selector_of, selector, tuple, statement, statements_of, sentences_of}
+use Rattle.pil_names.specs.Finding.{item_named}
+use Rattle.pil_meaning.specs.Meaning.{named_item, read_in, read_term, read_filter, read_tuple, read_draft, read_homes, meaning}
+use Rattle.pil_print.specs.Statements.{numeral, named, expression, selector_of, selector, tuple, statement, statements_of, sentences_of}
 
 -- an expression with 0 for each name and number
 abbrev shape : Term → Term

@@ -1,6 +1,6 @@
 -- The printed text of statements has the tokens of the statements.
-use Rattle.std.proofs.Common.{ℕ, zero, suc, ◌≡◌, ◌<◌, ◌+◌, List, [], ◌∷◌, ◌++◌, Bool, true, false, ◌&&◌, length, map, All, Option, Some, None, Result, Ok, Err, refl, sym, ap, subst, ◌∙◌, arith, append_assoc}
-use Rattle.std.specs.Prelude.{codes, decimal, flat_map}
+use Rattle.std.proofs.Common.{ℕ, ◌≡◌, ◌<◌, ◌+◌, List, [], ◌∷◌, ◌++◌, Bool, true, false, ◌&&◌, length, map, All, Option, Some, None, Result, Ok, Err, refl, sym, ap, subst, ◌∙◌, arith, append_assoc}
+use Rattle.std.specs.Prelude.{codes, decimal}
 use Rattle.std.proofs.lemmas.List.{append-nil, map-append}
 use Rattle.std.proofs.lemmas.List.Elements.{All-head, All-tail}
 use Rattle.pil_token.specs.declared.token.Token.{Token}
@@ -25,7 +25,7 @@ use Rattle.pil_syntax.specs.declared.tree.Size.TheVariants as sizes
 use Rattle.pil_syntax.specs.Tree.{Term, num, col, constant, public, opp, group, ◌⊕◌, ◌⊖◌, ◌⊗◌, Filter, every, by_col, by_group, Tuple, Sentence, constant_is, namespace_of, columns, intermediate, public_is, identity, lookup, bus}
 use Rattle.pil_syntax.specs.Spelling.{mark, marked, word, name, numeral, space_tokens, index_tokens, next_tokens, ref_tokens, term_tokens, filter_tokens, joined, tuple_tokens, declaration_tokens, kind_word, size_tokens, sentence_tokens, tokens_of}
 use Rattle.pil_syntax.specs.Placeless.{token_of}
-use Rattle.pil_print.specs.Printed.{space_text, index_text, next_text, reference_text, term_text, filter_text, separated, tuple_text, declaration_text, kind_text, size_text, sentence_text, line_text, text_of}
+use Rattle.pil_print.specs.Printed.{space_text, index_text, next_text, reference_text, term_text, filter_text, separated, tuple_text, declaration_text, kind_text, size_text, sentence_text, text_of}
 
 -- a text is read as these tokens, whatever follows that is apart from it
 record Lexes (text : List ℕ) (ps : List Placed) : Type 0 where
@@ -233,7 +233,7 @@ sentence-lexes (intermediate x e) h = left refl (behind Pol) (right refl (a-name
 sentence-lexes (public_is x r n) h =
     let parts = both (ref_tokens r) (mark OpenParen ∷ numeral n ∷ mark CloseParen ∷ []) h.1.1.1 in
     left refl (behind Public) (right refl (a-name x h.1.0)
-        (left refl equals (right refl (ref-lexes r parts.0) (left refl (a-mark OpenParen 0) (right refl (a-number n parts.1.1.0) (a-mark CloseParen 0))))))
+    (left refl equals (right refl (ref-lexes r parts.0) (left refl (a-mark OpenParen 0) (right refl (a-number n parts.1.1.0) (a-mark CloseParen 0))))))
 sentence-lexes (identity a b) h =
     let parts = both (term_tokens a) (mark Equals ∷ term_tokens b) h in
     right refl (term-lexes a parts.0) (left refl equals (term-lexes b parts.1.1))

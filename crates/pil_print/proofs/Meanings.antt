@@ -1,23 +1,22 @@
 -- What the meaning of a file has that breaks no rule: names that aren't repeated, and lines in their places.
-use Rattle.std.proofs.Common.{ℕ, zero, suc, ◌≡◌, ◌<◌, ◌+◌, List, [], ◌∷◌, ◌++◌, Bool, true, false, cond, length, map, filter, Option, Some, None, refl, sym, ap, subst, ◌∙◌, arith, All, append_assoc}
+use Rattle.std.proofs.Common.{ℕ, ◌≡◌, ◌<◌, ◌+◌, List, [], ◌∷◌, ◌++◌, Bool, true, false, cond, length, map, filter, Option, Some, None, refl, sym, ap, subst, ◌∙◌, arith, All, append_assoc}
 use Rattle.std.specs.Prelude.{flat_map, unwrap_or, is_some, bytes_eq}
-use Rattle.std.proofs.lemmas.List.{append-nil, map-append}
-use Rattle.std.proofs.lemmas.List.Elements.{All-nil, All-cons, All-head, All-tail, All-map, All-weaker}
+use Rattle.std.proofs.lemmas.List.{map-append}
+use Rattle.std.proofs.lemmas.List.Elements.{All-nil, All-cons, All-map, All-weaker}
 use Rattle.pil_syntax.specs.declared.tree.Ident.{Ident}
 use Rattle.pil_syntax.specs.declared.tree.Number.{Number}
 use Rattle.pil_syntax.specs.declared.tree.Reference.{Reference}
 use Rattle.pil_syntax.specs.declared.tree.ColumnKind.TheVariants.{Constant, Commit}
 use Rattle.pil_syntax.specs.Tree.{Term, num, col, constant, public, opp, group, ◌⊕◌, ◌⊖◌, ◌⊗◌, Filter, every, by_col, by_group, Tuple}
-use Rattle.pil_ast.specs.Term as ast
-use Rattle.pil_ast.specs.Term.{Namespace, Line, space_at}
+use Rattle.pil_ast.specs.Term.{Namespace}
 use Rattle.pil_names.specs.Outline.{Draft, column, defined, published, equal, inside, against, Home, Outline, home_at, draft_at}
-use Rattle.pil_names.specs.Finding.{Entry, found, numbered, constant_entries, home_entries, public_entries, published_name, public_names, polynomials_from, polynomial_entries, home_named, item_named}
-use Rattle.pil_names.specs.Wrongs.{stands, repeats, repeated_among, repeated, terms_of, terms_of_list, selectors_of, each_name, each_item, references, home_or, first_home, home_of_terms, unknown, unknown_in_size, unknown_in_draft, unknown_in_public, unknown_in_term, unknown_reference, unknown_in_home, unknown_in_item, unknown_constant, unknown_public, space_place}
-use Rattle.pil_meaning.specs.Meaning.{named_item, read_in, read_reference, read_term, read_filter, read_tuple, read_draft, read_home, read_homes, meaning}
+use Rattle.pil_names.specs.Finding.{Entry, numbered, constant_entries, home_entries, public_entries, published_name, public_names, polynomials_from, polynomial_entries, home_named, item_named}
+use Rattle.pil_names.specs.Wrongs.{stands, repeats, repeated_among, repeated, terms_of, terms_of_list, selectors_of, each_item, references, home_or, home_of_terms, unknown, unknown_in_size, unknown_in_draft, unknown_in_public, unknown_in_term, unknown_reference, unknown_in_home, unknown_in_item, space_place}
+use Rattle.pil_meaning.specs.Meaning.{named_item, read_in, read_reference, read_term, read_filter, read_tuple, read_draft, read_homes, meaning}
 use Rattle.pil_meaning.proofs.Nothing.{left_nil, right_nil, all_nil, each_draft, home_all}
 use Rattle.pil_meaning.proofs.Places.{reading}
 use Rattle.pil_print.specs.Statements.{ident, name_of, is_public, published as published_of}
-use Rattle.pil_print.proofs.Outlines.{draft, home, outline, IsNamed, names-of-publics, not-there}
+use Rattle.pil_print.proofs.Outlines.{draft, home, IsNamed, names-of-publics, not-there}
 use Rattle.pil_print.proofs.Rereads.{spaces_in, first_or, sel_terms, IsPlacedList, IsPlaced, ArePlaced, first-home, joined-same}
 
 -- names that don't repeat don't at other places either
@@ -43,7 +42,7 @@ repeats-same bs cs (x ∷ xs) (y ∷ ys) e f h =
     let new = not-there (stands x.name bs) x.at (left_nil (cond (stands x.name bs) (x.at ∷ []) []) (repeats (bs ++ x ∷ []) xs) h) in
     let none : stands y.name cs ≡ false = sym (stands-same y.name bs cs e) ∙ ap (λ n. stands n bs) (sym first) ∙ new in
     let longer : map bytes_of (bs ++ x ∷ []) ≡ map bytes_of (cs ++ y ∷ [])
-      = map-append bytes_of bs (x ∷ []) ∙ joined-same (map bytes_of bs) (x.name ∷ []) (map bytes_of cs) (y.name ∷ []) e (ap (λ n. n ∷ []) first) ∙ sym (map-append bytes_of cs (y ∷ [])) in
+    = map-append bytes_of bs (x ∷ []) ∙ joined-same (map bytes_of bs) (x.name ∷ []) (map bytes_of cs) (y.name ∷ []) e (ap (λ n. n ∷ []) first) ∙ sym (map-append bytes_of cs (y ∷ [])) in
     ap (λ b. cond b (y.at ∷ []) [] ++ repeats (cs ++ y ∷ []) ys) none
     ∙ repeats-same (bs ++ x ∷ []) (cs ++ y ∷ []) xs ys longer rest (right_nil (cond (stands x.name bs) (x.at ∷ []) []) (repeats (bs ++ x ∷ []) xs) h)
 
@@ -73,8 +72,8 @@ publics-names o n [] = refl
 publics-names o n (h ∷ hs) =
     map-append bytes_of (flat_map published_name h.items) (public_names hs)
     ∙ (joined-same (map bytes_of (flat_map published_name h.items)) (map bytes_of (public_names hs)) _ _ (item-names o n h.items) (publics-names o (n + 1) hs)
-        ∙ (sym (map-append bytes_of (map (λ l. ident (name_of l)) (filter is_public (map (read_draft o n) h.items))) (map (λ l. ident (name_of l)) (published_of (read_homes o (n + 1) hs))))
-            ∙ ap (map bytes_of) (sym (map-append (λ l. ident (name_of l)) (filter is_public (map (read_draft o n) h.items)) (published_of (read_homes o (n + 1) hs))))))
+    ∙ (sym (map-append bytes_of (map (λ l. ident (name_of l)) (filter is_public (map (read_draft o n) h.items))) (map (λ l. ident (name_of l)) (published_of (read_homes o (n + 1) hs))))
+    ∙ ap (map bytes_of) (sym (map-append (λ l. ident (name_of l)) (filter is_public (map (read_draft o n) h.items)) (published_of (read_homes o (n + 1) hs))))))
 
 polynomial-names : (o : Outline) (ns : List Namespace) (s n : ℕ) (ds : List Draft) → map bytes_of (map (λ (e : Entry). e.name) (polynomials_from n ds)) ≡ map bytes_of (map (λ (e : Entry). e.name) (polynomials_from n (map (draft ns) (map (read_draft o s) ds))))
 polynomial-names o ns s n [] = refl
@@ -185,7 +184,9 @@ module _ (o : Outline) (s : ℕ) where
       (placed-lists ls (flat-left (flat_map terms_of_list ls) (flat_map terms_of_list rs) all), placed-lists rs (flat-right (flat_map terms_of_list ls) (flat_map terms_of_list rs) all))
 
 pub meaning-placed : (o : Outline) → unknown o ≡ [] → ArePlaced (meaning o)
-meaning-placed o h = record { each = λ s l.
-    let l' : s < length o.homes = omega (arith, (reading o).long) in
-    let names = each_draft (unknown_in_draft o) o s (right_nil (flat_map (λ (k : Home). unknown_in_size o k.size) o.homes) (each_item (unknown_in_draft o) o) h) l' in
-    subst (All (IsPlaced s)) (sym ((reading o).items s l')) (All-map (IsPlaced s) (read_draft o s) (home_at o.homes s).items (All-weaker (λ d. unknown_in_draft o s d ≡ []) (λ d. IsPlaced s (read_draft o s d)) (placed-draft o s) (home_at o.homes s).items names)) }
+meaning-placed o h = record {
+  each = λ s l.
+      let l' : s < length o.homes = omega (arith, (reading o).long) in
+      let names = each_draft (unknown_in_draft o) o s (right_nil (flat_map (λ (k : Home). unknown_in_size o k.size) o.homes) (each_item (unknown_in_draft o) o) h) l' in
+      subst (All (IsPlaced s)) (sym ((reading o).items s l')) (All-map (IsPlaced s) (read_draft o s) (home_at o.homes s).items (All-weaker (λ d. unknown_in_draft o s d ≡ []) (λ d. IsPlaced s (read_draft o s d)) (placed-draft o s) (home_at o.homes s).items names));
+}

@@ -1,7 +1,7 @@
 -- What doesn't depend on the places of a text that has no constants.
-use Rattle.std.proofs.Common.{ℕ, zero, suc, ◌≡◌, ◌<◌, ◌≤◌, ◌+◌, ◌^◌, List, [], ◌∷◌, ◌++◌, Bool, true, false, ◌&&◌, nat_lt, nat_le, nat_eq, cond, length, map, take, sum_by, Option, Some, None, refl, sym, ap, subst, ◌∙◌, arith}
+use Rattle.std.proofs.Common.{ℕ, zero, suc, ◌≡◌, ◌+◌, ◌^◌, List, [], ◌∷◌, ◌++◌, Bool, true, false, ◌&&◌, nat_lt, nat_le, nat_eq, cond, length, map, take, sum_by, Option, Some, None, refl, sym, ap, subst, ◌∙◌, arith}
 use Rattle.std.specs.Prelude.{flat_map, unwrap_or, option_map, is_some, is_none, bytes_eq}
-use Rattle.std.proofs.lemmas.List.{append-nil, map-append, length-map}
+use Rattle.std.proofs.lemmas.List.{map-append, length-map}
 use Rattle.std.proofs.lemmas.List.Sums.{sum_by-cons}
 use Rattle.pil_syntax.specs.declared.tree.Ident.{Ident}
 use Rattle.pil_syntax.specs.declared.tree.Number.{Number}
@@ -17,8 +17,8 @@ use Rattle.pil_ast.specs.Term as ast
 use Rattle.pil_ast.specs.Term.{Namespace, space_at}
 use Rattle.pil_names.specs.Outline.{Named, Draft, column, defined, published, equal, inside, against, Home, Outline, constants_of, drafts_of, items_before, homes_of, outline_of, home_at, draft_at}
 use Rattle.pil_names.specs.Finding.{Entry, found, numbered, home_entries, published_name, public_names, public_entries, polynomials_from, polynomial_entries, home_named, item_named}
-use Rattle.pil_names.specs.Wrongs.{each_from, each_item, unless, each_name, selectors_of, terms_of, terms_of_list, repeats, repeated_among, repeated, unknown, unknown_index, length_of, unknown_in_item, unknown_in_home, unknown_reference, unknown_constant, unknown_public, space_place, is_column, is_public_item, is_public_in, unknown_published, unknown_in_size, unknown_in_term, unknown_in_public, unknown_in_draft, bad_size, bad_public_row, bad_row_of_draft, bad_rows, rows_of, references, home_or, first_home, home_of_terms, stray, strays, mixed_in, mixed_in_draft, mixed, wrong_length, other_width, other_widths, width_of_first, wrong_widths_of, wrong_widths}
-use Rattle.pil_meaning.specs.Meaning.{length_or_one, constant_columns, committed_columns, start_of_kind, number_or_zero, named_item, read_in, read_reference, read_term, read_filter, read_tuple, length_number, column_number, read_draft, read_home, read_homes, meaning}
+use Rattle.pil_names.specs.Wrongs.{each_from, each_item, unless, each_name, selectors_of, terms_of, terms_of_list, repeated_among, repeated, unknown, unknown_index, length_of, unknown_in_item, unknown_in_home, unknown_reference, unknown_constant, unknown_public, space_place, is_column, is_public_item, is_public_in, unknown_published, unknown_in_size, unknown_in_term, unknown_in_public, unknown_in_draft, bad_size, bad_public_row, bad_row_of_draft, bad_rows, rows_of, references, home_or, first_home, home_of_terms, stray, strays, mixed_in, mixed_in_draft, mixed, wrong_length, other_width, other_widths, width_of_first, wrong_widths_of, wrong_widths}
+use Rattle.pil_meaning.specs.Meaning.{length_or_one, constant_columns, committed_columns, start_of_kind, number_or_zero, named_item, read_in, read_reference, read_term, read_filter, read_tuple, length_number, column_number, read_draft, read_homes, meaning}
 use Rattle.pil_meaning.specs.Marks.{double_of, double_at, double_reference, double_in_term, double_in_draft, double}
 use Rattle.pil_meaning.specs.Soundness.{IsUnbroken}
 use Rattle.pil_meaning.proofs.Mapped.{same-tuples}
@@ -262,14 +262,14 @@ module _ (hs : List Home) where
   read-in-same m r (Some k) =
       ap (λ (h : Home). named_item m h.items k (draft_at h.items k) (option_map unplaced_number r.index) (is_some (option_map at_zero r.next))) (home-unplaced hs m)
       ∙ (ap (λ (d : Draft). named_item m (map unplaced_draft (home_at hs m).items) k d (option_map unplaced_number r.index) (is_some (option_map at_zero r.next))) (draft-unplaced (home_at hs m).items k)
-          ∙ (ap (named_item m (map unplaced_draft (home_at hs m).items) k (unplaced_draft (draft_at (home_at hs m).items k)) (option_map unplaced_number r.index)) (some-of r.next)
-              ∙ item-of m (home_at hs m).items k (draft_at (home_at hs m).items k) r.index (is_some r.next)))
+      ∙ (ap (named_item m (map unplaced_draft (home_at hs m).items) k (unplaced_draft (draft_at (home_at hs m).items k)) (option_map unplaced_number r.index)) (some-of r.next)
+      ∙ item-of m (home_at hs m).items k (draft_at (home_at hs m).items k) r.index (is_some r.next)))
 
   reference-same : (s : ℕ) (r : Reference) → read_reference (plain (map unplaced_home hs)) s (unplaced_reference r) ≡ read_reference (plain hs) s r
   reference-same s r =
       ap (λ h. read_in (plain (map unplaced_home hs)) (unwrap_or h s) (unplaced_reference r) (item_named (plain (map unplaced_home hs)) (unwrap_or h s) (unplaced_reference r))) (home-same s r.space)
       ∙ (ap (read_in (plain (map unplaced_home hs)) (home_or (plain hs) s r) (unplaced_reference r)) (item-same (home_or (plain hs) s r) r)
-          ∙ read-in-same (home_or (plain hs) s r) r (item_named (plain hs) (home_or (plain hs) s r) r))
+      ∙ read-in-same (home_or (plain hs) s r) r (item_named (plain hs) (home_or (plain hs) s r) r))
 
   term-same : (s : ℕ) (e : Term) → read_term (plain (map unplaced_home hs)) s (unplaced e) ≡ read_term (plain hs) s e
   term-same s (num n) = refl
@@ -315,7 +315,7 @@ module _ (hs : List Home) where
   draft-same s (equal a b) =
       ap (λ m. ast.identity m (read_term (plain (map unplaced_home hs)) s (unplaced a)) (read_term (plain (map unplaced_home hs)) s (unplaced b))) (home-of-same s (a ∷ b ∷ []))
       ∙ (ap (λ t. ast.identity (home_of_terms (plain hs) s (a ∷ b ∷ [])) t (read_term (plain (map unplaced_home hs)) s (unplaced b))) (term-same s a)
-          ∙ ap (ast.identity (home_of_terms (plain hs) s (a ∷ b ∷ [])) (read_term (plain hs) s a)) (term-same s b))
+      ∙ ap (ast.identity (home_of_terms (plain hs) s (a ∷ b ∷ [])) (read_term (plain hs) s a)) (term-same s b))
   draft-same s (inside a b) = ap (λ t. ast.lookup t (read_tuple (plain (map unplaced_home hs)) s (unplaced_tuple b))) (tuple-same s a) ∙ ap (ast.lookup (read_tuple (plain hs) s a)) (tuple-same s b)
   draft-same s (against ls rs) = ap (λ t. ast.bus t (map (read_tuple (plain (map unplaced_home hs)) s) (map unplaced_tuple rs))) (tuples-same s ls) ∙ ap (ast.bus (map (read_tuple (plain hs) s) ls)) (tuples-same s rs)
 
@@ -332,7 +332,7 @@ module _ (hs : List Home) where
   homes-same n (k ∷ ks) =
       cons _ _ _ _
       (ap (λ r. let a : Namespace = record { name = k.name.name; rows = r; items = map (read_draft (plain (map unplaced_home hs)) n) (map unplaced_draft k.items) } in a) (rows-same k.size)
-          ∙ ap (λ ls. let a : Namespace = record { name = k.name.name; rows = rows_of (plain hs) k.size; items = ls } in a) (drafts-same n k.items))
+      ∙ ap (λ ls. let a : Namespace = record { name = k.name.name; rows = rows_of (plain hs) k.size; items = ls } in a) (drafts-same n k.items))
       (homes-same (n + 1) ks)
 
   pub meaning-same : meaning (plain (map unplaced_home hs)) ≡ meaning (plain hs)
@@ -414,7 +414,7 @@ module _ (hs : List Home) where
   in-item-zeros m r (Some k) =
       ap (λ (h : Home). unknown_index 0 (length_of (draft_at h.items k)) (option_map unplaced_number r.index)) (home-unplaced hs m)
       ∙ (ap (λ (d : Draft). unknown_index 0 (length_of d) (option_map unplaced_number r.index)) (draft-unplaced (home_at hs m).items k)
-          ∙ (ap (λ n. unknown_index 0 n (option_map unplaced_number r.index)) (length-of-unplaced (draft_at (home_at hs m).items k)) ∙ index-zeros r.name.at (length_of (draft_at (home_at hs m).items k)) r.index))
+      ∙ (ap (λ n. unknown_index 0 n (option_map unplaced_number r.index)) (length-of-unplaced (draft_at (home_at hs m).items k)) ∙ index-zeros r.name.at (length_of (draft_at (home_at hs m).items k)) r.index))
 
   in-home-zeros : (r : Reference) (m : Option ℕ) → unknown_in_home (plain (map unplaced_home hs)) (unplaced_reference r) m ≡ zeros (unknown_in_home (plain hs) r m)
   in-home-zeros r None = space-zeros r.space
@@ -445,7 +445,7 @@ module _ (hs : List Home) where
   published-zeros s r =
       zeros-unless _ (is_none r.next && is_public_in (plain hs) r (home_named (plain hs) s r.space)) r.name.at
       (ap (λ b. b && is_public_in (plain (map unplaced_home hs)) (unplaced_reference r) (home_named (plain (map unplaced_home hs)) s (option_map unplaced_ident r.space))) (none-of r.next)
-          ∙ ap (λ b. is_none r.next && b) (ap (is_public_in (plain (map unplaced_home hs)) (unplaced_reference r)) (home-same hs s r.space) ∙ public-in-same r (home_named (plain hs) s r.space)))
+      ∙ ap (λ b. is_none r.next && b) (ap (is_public_in (plain (map unplaced_home hs)) (unplaced_reference r)) (home-same hs s r.space) ∙ public-in-same r (home_named (plain hs) s r.space)))
 
   in-public-zeros : (s : ℕ) (d : Draft) → unknown_in_public (plain (map unplaced_home hs)) s (unplaced_draft d) ≡ zeros (unknown_in_public (plain hs) s d)
   in-public-zeros s (column k d) = refl
@@ -467,7 +467,7 @@ module _ (hs : List Home) where
       zeros-join _ _ (flat_map (λ (h : Home). unknown_in_size (plain hs) h.size) hs) (each_item (unknown_in_draft (plain hs)) (plain hs))
       (flat-zeros (λ (h : Home). unknown_in_size (plain (map unplaced_home hs)) h.size) (λ (h : Home). unknown_in_size (plain hs) h.size) unplaced_home (λ h. size-zeros h.size) hs)
       (items-zeros (unknown_in_draft (plain (map unplaced_home hs))) (unknown_in_draft (plain hs)) hs
-          (λ s d. zeros-join _ _ (unknown_in_public (plain hs) s d) (flat_map (unknown_in_term (plain hs) s) (terms_of d)) (in-public-zeros s d) (draft-zeros (unknown_in_term (plain (map unplaced_home hs)) s) (unknown_in_term (plain hs) s) (term-zeros s) d)))
+      (λ s d. zeros-join _ _ (unknown_in_public (plain hs) s d) (flat_map (unknown_in_term (plain hs) s) (terms_of d)) (in-public-zeros s d) (draft-zeros (unknown_in_term (plain (map unplaced_home hs)) s) (unknown_in_term (plain hs) s) (term-zeros s) d)))
 
   bad-size-zeros : (n : Size) → bad_size (plain (map unplaced_home hs)) (unplaced_size n) ≡ zeros (bad_size (plain hs) n)
   bad-size-zeros (sizes.Number n) = zeros-unless _ (nat_lt 0 n.value && nat_le n.value (2 ^ 24)) n.at refl
@@ -569,7 +569,6 @@ module _ (hs : List Home) where
       items-zeros (double_in_draft (plain (map unplaced_home hs))) (double_in_draft (plain hs)) hs
       (λ s d. draft-zeros (double_in_term (plain (map unplaced_home hs)) s) (double_in_term (plain hs) s) (λ e. names-zeros _ _ _ _ _ _ (double-reference-zeros s) (λ x. refl) (λ x. refl) e) d)
 
-
 -- repeated names
 bytes-unplaced : (xs : List Ident) → map bytes_of (map unplaced_ident xs) ≡ map bytes_of xs
 bytes-unplaced [] = refl
@@ -614,7 +613,7 @@ repeated-forth hs h =
     let second = right_nil (repeated_among (home_entries (plain hs))) (repeated_among (public_entries (plain hs)) ++ flat_map polynomials_repeated hs) h in
     nil-join _ _ (numbered-same (map (λ (k : Home). k.name) hs) (map (λ (k : Home). k.name) (map unplaced_home hs)) (sym (home-bytes hs)) (left_nil (repeated_among (home_entries (plain hs))) (repeated_among (public_entries (plain hs)) ++ flat_map polynomials_repeated hs) h))
     (nil-join _ _ (numbered-same (public_names hs) (public_names (map unplaced_home hs)) (sym (public-bytes hs)) (left_nil (repeated_among (public_entries (plain hs))) (flat_map polynomials_repeated hs) second))
-        (forth-homes hs (right_nil (repeated_among (public_entries (plain hs))) (flat_map polynomials_repeated hs) second)))
+    (forth-homes hs (right_nil (repeated_among (public_entries (plain hs))) (flat_map polynomials_repeated hs) second)))
 
 pub repeated-back : (hs : List Home) → repeated (plain (map unplaced_home hs)) ≡ [] → repeated (plain hs) ≡ []
 repeated-back hs h =
@@ -622,7 +621,7 @@ repeated-back hs h =
     let second = right_nil (repeated_among (home_entries (plain us))) (repeated_among (public_entries (plain us)) ++ flat_map polynomials_repeated us) h in
     nil-join _ _ (numbered-same (map (λ (k : Home). k.name) (map unplaced_home hs)) (map (λ (k : Home). k.name) hs) (home-bytes hs) (left_nil (repeated_among (home_entries (plain us))) (repeated_among (public_entries (plain us)) ++ flat_map polynomials_repeated us) h))
     (nil-join _ _ (numbered-same (public_names (map unplaced_home hs)) (public_names hs) (public-bytes hs) (left_nil (repeated_among (public_entries (plain us))) (flat_map polynomials_repeated us) second))
-        (back-homes hs (right_nil (repeated_among (public_entries (plain us))) (flat_map polynomials_repeated us) second)))
+    (back-homes hs (right_nil (repeated_among (public_entries (plain us))) (flat_map polynomials_repeated us) second)))
 
 -- namespaces that differ in places alone
 module _ (hs ks : List Home) (alike : map unplaced_home ks ≡ map unplaced_home hs) where
@@ -658,7 +657,8 @@ ignores-places ss qs none alike new h =
     let none' : flat_map constants_of qs ≡ [] = no-constants (flat_map constants_of qs) (sym (constants-unplaced qs) ∙ ap (flat_map constants_of) alike ∙ constants-unplaced ss ∙ ap (map unplaced_named) none) in
     let homes : map unplaced_home (homes_of qs) ≡ map unplaced_home (homes_of ss) = sym (homes-unplaced qs) ∙ ap homes_of alike ∙ homes-unplaced ss in
     let o = plain-outline ss none in
-    let o' = plain-outline qs none' in
-    (ap meaning o' ∙ moved-meaning (homes_of ss) (homes_of qs) homes ∙ sym (ap meaning o),
-        subst (λ p. repeated p ≡ []) (sym o') (moved-repeated (homes_of ss) (homes_of qs) homes (subst (λ p. repeated p ≡ []) o new)),
-        subst IsUnbroken (sym o') (moved-unbroken (homes_of ss) (homes_of qs) homes (subst IsUnbroken o h)))
+    let o' = plain-outline qs none' in (
+      ap meaning o' ∙ moved-meaning (homes_of ss) (homes_of qs) homes ∙ sym (ap meaning o),
+      subst (λ p. repeated p ≡ []) (sym o') (moved-repeated (homes_of ss) (homes_of qs) homes (subst (λ p. repeated p ≡ []) o new)),
+      subst IsUnbroken (sym o') (moved-unbroken (homes_of ss) (homes_of qs) homes (subst IsUnbroken o h)),
+    )

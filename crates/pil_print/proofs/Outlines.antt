@@ -1,21 +1,19 @@
 -- The outline of printed statements, and what their names stand for.
-use Rattle.std.proofs.Common.{ℕ, zero, suc, ◌≡◌, ◌<◌, ◌≤◌, ◌+◌, ◌-◌, List, [], ◌∷◌, ◌++◌, Bool, true, false, length, map, take, filter, sum_by, slice_get, Option, Some, None, refl, sym, ap, subst, ◌∙◌, arith, append_assoc, nat_lt, nat_eq, cond, ◌&&◌, ◌⊎◌, inl, inr}
-use Rattle.std.specs.Prelude.{flat_map, unwrap_or, option_map, bytes_eq}
+use Rattle.std.proofs.Common.{ℕ, zero, suc, ◌≡◌, ◌<◌, ◌≤◌, ◌+◌, ◌-◌, List, [], ◌∷◌, ◌++◌, Bool, true, false, length, map, take, filter, sum_by, slice_get, Option, Some, None, refl, sym, ap, subst, ◌∙◌, arith, nat_eq, cond, ◌&&◌, ◌⊎◌, inl, inr}
+use Rattle.std.specs.Prelude.{flat_map, bytes_eq}
 use Rattle.std.proofs.lemmas.Bool.{cases_lt}
 use Rattle.std.proofs.lemmas.List.{append-nil, map-append, length-map, take_all}
 use Rattle.std.proofs.lemmas.List.Sums.{sum_by-cons}
 use Rattle.std.proofs.lemmas.Grind.{common_steps}
 use Rattle.pil_syntax.specs.declared.tree.Ident.{Ident}
-use Rattle.pil_syntax.specs.declared.tree.Number.{Number}
 use Rattle.pil_syntax.specs.declared.tree.ColumnKind.TheVariants.{Constant, Commit}
 use Rattle.pil_syntax.specs.declared.tree.Size.TheVariants as sizes
 use Rattle.pil_syntax.specs.Tree.{Sentence}
-use Rattle.pil_ast.specs.Term as ast
 use Rattle.pil_ast.specs.Term.{Line, constant, commit, inter, published as published', identity, lookup, bus, Namespace, item_at, space_at, columns_of, width}
-use Rattle.pil_names.specs.Outline.{Named, Draft, column, defined, published, equal, inside, against, Home, Outline, constants_of, items_before, homes_of, outline_of, home_at, draft_at}
-use Rattle.pil_names.specs.Finding.{Entry, found, numbered, home_entries, published_name, public_names, public_entries, polynomials_from, polynomial_entries}
+use Rattle.pil_names.specs.Outline.{Draft, column, defined, published, equal, inside, against, Home, Outline, constants_of, items_before, homes_of, outline_of, home_at, draft_at}
+use Rattle.pil_names.specs.Finding.{Entry, found, numbered, home_entries, published_name, public_names, public_entries, polynomials_from}
 use Rattle.pil_names.specs.Wrongs.{stands, repeats, repeated_among}
-use Rattle.pil_meaning.specs.Meaning.{length_or_one, constant_columns, committed_columns, start_of_kind}
+use Rattle.pil_meaning.specs.Meaning.{constant_columns, committed_columns, start_of_kind}
 use Rattle.pil_meaning.proofs.Nothing.{left_nil, right_nil}
 use Rattle.pil_print.specs.Statements.{ident, numeral, name_of, is_constant, is_commit, is_public, declared, Spot, spot_in, published as published_of, column_reference, expression, tuple, declaration, statement, statements_of, sentences_of}
 use Rattle.pil_print.proofs.Starts.{spot-here, spot-past, width-parts}
@@ -309,8 +307,11 @@ spot-skip (x ∷ xs) rest k h =
 pub column-place : (ls : List Line) (k : ℕ) → k < width ls → IsAt is_constant ls k (spot_in (declared ls) k) ⊎ ((sum_by columns_of (filter is_constant ls) ≤ k) × IsAt is_commit ls (k - sum_by columns_of (filter is_constant ls)) (spot_in (declared ls) k))
 column-place ls k h = elim (cases_lt k (sum_by columns_of (filter is_constant ls))) [
   | inl lt ↦ inl (spot-kind is_constant ls (filter is_commit ls) k lt)
-  | inr ge ↦ inr (ge, subst (IsAt is_commit ls (k - sum_by columns_of (filter is_constant ls))) (sym (spot-skip (filter is_constant ls) (filter is_commit ls) k ge ∙ ap (λ xs. spot_in xs (k - sum_by columns_of (filter is_constant ls))) (sym (append-nil (filter is_commit ls)))))
-      (spot-kind is_commit ls [] (k - sum_by columns_of (filter is_constant ls)) (omega (arith, width-parts ls))))
+  | inr ge ↦ inr (
+    ge,
+    subst (IsAt is_commit ls (k - sum_by columns_of (filter is_constant ls))) (sym (spot-skip (filter is_constant ls) (filter is_commit ls) k ge ∙ ap (λ xs. spot_in xs (k - sum_by columns_of (filter is_constant ls))) (sym (append-nil (filter is_commit ls)))))
+        (spot-kind is_commit ls [] (k - sum_by columns_of (filter is_constant ls)) (omega (arith, width-parts ls))),
+  )
 ]
 
 pub start-constant : (ns : List Namespace) (ls : List Line) (j : ℕ) → start_of_kind Constant (map (draft ns) ls) j ≡ sum_by columns_of (filter is_constant (take j ls))

@@ -1,14 +1,12 @@
 -- A printed text is read as statements that are accepted and mean what was printed.
-use Rattle.std.proofs.Common.{ℕ, ◌≡◌, ◌≤◌, ◌+◌, ◌^◌, false, List, [], ◌∷◌, ◌++◌, map, cond, count_by, sum_by, Option, Some, None, refl, sym, ap, subst, ◌∙◌, arith}
-use Rattle.std.specs.Prelude.{Ok}
+use Rattle.std.proofs.Common.{ℕ, ◌≡◌, List, [], ◌∷◌, ◌++◌, map, cond, sum_by, Option, Some, None, refl, ap, ◌∙◌, arith}
 use Rattle.std.proofs.lemmas.List.{map-append}
 use Rattle.std.proofs.lemmas.List.Sums.{sum_by-cons}
 use Rattle.pil_token.specs.declared.token.Token.{Token}
 use Rattle.pil_token.specs.declared.token.Placed.{Placed}
 use Rattle.pil_token.specs.declared.token.Mark.{Mark}
-use Rattle.pil_token.specs.declared.token.Mark.TheVariants.{Percent, Equals, Semicolon, OpenParen, CloseParen, OpenBrace, CloseBrace, OpenBracket, CloseBracket, Comma, Dot, Prime, Plus, Minus, Star, Colon}
+use Rattle.pil_token.specs.declared.token.Mark.TheVariants.{Equals, Semicolon, OpenParen, CloseParen, OpenBrace, CloseBrace, Comma, Plus, Minus, Star}
 use Rattle.pil_token.specs.declared.token.Word.TheVariants as words
-use Rattle.pil_token.specs.Tokens.{lexed}
 use Rattle.pil_syntax.specs.declared.tree.Ident.{Ident}
 use Rattle.pil_syntax.specs.declared.tree.Number.{Number}
 use Rattle.pil_syntax.specs.declared.tree.Reference.{Reference}
@@ -18,7 +16,6 @@ use Rattle.pil_syntax.specs.declared.tree.Size.TheVariants as sizes
 use Rattle.pil_syntax.specs.Tree.{Term, num, col, constant, public, opp, group, ◌⊕◌, ◌⊖◌, ◌⊗◌, Filter, every, by_col, by_group, Tuple, Sentence, constant_is, namespace_of, columns, intermediate, public_is, identity, lookup, bus}
 use Rattle.pil_syntax.specs.Spelling.{mark, marked, word, name, numeral, seen, space_tokens, index_tokens, next_tokens, ref_tokens, term_tokens, filter_tokens, joined, tuple_tokens, declaration_tokens, kind_word, size_tokens, sentence_tokens, tokens_of}
 use Rattle.pil_syntax.specs.Grammar.{limits}
-use Rattle.pil_syntax.specs.Refusal.{Reads}
 use Rattle.pil_syntax.specs.Placeless.{token_of}
 use Rattle.pil_syntax.proofs.Placeless.{placeless}
 use Rattle.pil_ast.specs.Term.{Namespace}
@@ -26,8 +23,7 @@ use Rattle.pil_names.specs.Outline.{Outline, outline_of}
 use Rattle.pil_meaning.specs.Meaning.{meaning}
 use Rattle.pil_meaning.specs.Soundness.{is_sign_of, is_sign, IsShort}
 use Rattle.pil_print.specs.Statements.{sentences_of}
-use Rattle.pil_print.specs.Printed.{printed}
-use Rattle.pil_print.specs.Laws.{IsAccepted, IsReadBack, ReadsBack}
+use Rattle.pil_print.specs.Laws.{ReadsBack}
 use Rattle.pil_print.proofs.Lexed.{whole_text}
 use Rattle.pil_print.proofs.Outlines.{outline-is}
 use Rattle.pil_print.proofs.Roundtrip.{keeps_meaning}

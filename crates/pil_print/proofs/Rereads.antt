@@ -1,25 +1,23 @@
 -- What is printed is read as what it was printed of.
-use Rattle.std.proofs.Common.{ℕ, zero, suc, ◌≡◌, ◌<◌, ◌≤◌, ◌+◌, ◌-◌, List, [], ◌∷◌, ◌++◌, Bool, true, false, length, map, take, filter, sum_by, Option, Some, None, refl, sym, ap, subst, ◌∙◌, arith, All, inl, inr}
+use Rattle.std.proofs.Common.{ℕ, suc, ◌≡◌, ◌<◌, ◌≤◌, ◌+◌, ◌-◌, List, [], ◌∷◌, ◌++◌, Bool, true, false, length, map, take, filter, sum_by, Option, Some, None, refl, sym, ap, subst, ◌∙◌, arith, All, inl, inr}
 use Rattle.std.specs.Prelude.{flat_map, unwrap_or, option_map, is_some}
-use Rattle.std.proofs.lemmas.List.{append-nil, map-append, length-map}
+use Rattle.std.proofs.lemmas.List.{map-append}
 use Rattle.std.proofs.lemmas.List.Elements.{All-nil, All-cons, All-head, All-tail, All-append}
 use Rattle.gold.specs.Field.{p}
-use Rattle.pil_syntax.specs.declared.tree.Ident.{Ident}
 use Rattle.pil_syntax.specs.declared.tree.Number.{Number}
 use Rattle.pil_syntax.specs.declared.tree.Reference.{Reference}
-use Rattle.pil_syntax.specs.declared.tree.ColumnKind.TheVariants.{Constant, Commit}
-use Rattle.pil_syntax.specs.Tree.{Term, num, col, constant, public, opp, group, ◌⊕◌, ◌⊖◌, ◌⊗◌, Filter, every, by_col, by_group, Tuple}
+use Rattle.pil_syntax.specs.Tree.{Term, num, col, constant, public, opp, group, ◌⊕◌, ◌⊖◌, ◌⊗◌}
 use Rattle.pil_syntax.specs.Grammar.{Level, expr, term, fact}
 use Rattle.pil_syntax.specs.Printing.{dressed}
 use Rattle.pil_ast.specs.Term as ast
 use Rattle.pil_ast.specs.Term.{Namespace, Line, Tuples, item_at, space_at, columns_of, width, publics}
 use Rattle.pil_ast.specs.Sound.{IsTerm, IsSelector, IsList, IsItem, IsInter, IsSound}
-use Rattle.pil_names.specs.Outline.{Draft, Home, Outline, home_at, draft_at}
-use Rattle.pil_names.specs.Finding.{found, home_entries, public_entries, polynomials_from, home_named, item_named}
+use Rattle.pil_names.specs.Outline.{Draft, Home, Outline, draft_at}
+use Rattle.pil_names.specs.Finding.{found, polynomials_from, item_named}
 use Rattle.pil_names.specs.Wrongs.{terms_of_list, selectors_of, references, home_or, first_home, home_of_terms}
-use Rattle.pil_meaning.specs.Meaning.{start_of_kind, named_item, read_in, read_reference, read_term, read_filter, read_tuple, length_number, column_number, read_draft, read_home, read_homes, meaning}
+use Rattle.pil_meaning.specs.Meaning.{named_item, read_in, read_reference, read_term, read_filter, read_tuple, length_number, column_number, read_draft, read_homes, meaning}
 use Rattle.pil_meaning.proofs.Mapped.{same-tuples}
-use Rattle.pil_print.specs.Statements.{ident, numeral, name_of, is_constant, is_commit, declared, Spot, spot_in, index_in, mark_of, reference_to, column_reference, inter_reference, published, named, expression, selector_of, selector, tuple}
+use Rattle.pil_print.specs.Statements.{numeral, name_of, is_constant, is_commit, declared, spot_in, index_in, mark_of, reference_to, column_reference, inter_reference, named, expression, selector_of, selector, tuple}
 use Rattle.pil_print.proofs.Printable.{publics-counted}
 use Rattle.pil_print.proofs.Outlines.{draft, home, outline, home-at, draft-at, IsNamed, space-found, public-found, IsPolynomial, polynomial-found, IsAt, column-place, start-constant, start-commit}
 
@@ -75,13 +73,13 @@ module _ (ns : List Namespace) (named' : IsNamed ns) where
       let spaced = space-found ns m named' l in
       let here = home-at ns ns m l in
       let found-item : item_named (outline ns) m (reference_to ns m item i b) ≡ Some j
-        = ap (λ (h : Home). found (name_of item) (polynomials_from 0 h.items)) here
-            ∙ (ap (λ (x : Line). found (name_of x) (polynomials_from 0 (map (draft ns) ls))) (sym same)
-                ∙ polynomial-found ns m j named' l within (subst IsPolynomial (sym same) is)) in
+      = ap (λ (h : Home). found (name_of item) (polynomials_from 0 h.items)) here
+      ∙ (ap (λ (x : Line). found (name_of x) (polynomials_from 0 (map (draft ns) ls))) (sym same)
+      ∙ polynomial-found ns m j named' l within (subst IsPolynomial (sym same) is)) in
       ap (λ h. read_in o (unwrap_or h s) r (item_named o (unwrap_or h s) r)) spaced
       ∙ (ap (read_in o m r) found-item
-          ∙ (ap (λ (h : Home). named_item m h.items j (draft_at h.items j) i (is_some (mark_of b))) here
-              ∙ ap (λ (d : Draft). named_item m (map (draft ns) ls) j d i (is_some (mark_of b))) (draft-at ns ls j within ∙ ap (draft ns) same)))
+      ∙ (ap (λ (h : Home). named_item m h.items j (draft_at h.items j) i (is_some (mark_of b))) here
+      ∙ ap (λ (d : Draft). named_item m (map (draft ns) ls) j d i (is_some (mark_of b))) (draft-at ns ls j within ∙ ap (draft ns) same)))
 
   constant-again : (m j k n : ℕ) (ls : List Line) (item : Line) (b : Bool) → is_constant item ≡ true → sum_by columns_of (filter is_constant (take j ls)) + n ≡ k → n < columns_of item
       → named_item m (map (draft ns) ls) j (draft ns item) (index_in item n) b ≡ ast.col m k b
@@ -153,7 +151,6 @@ module _ (ns : List Namespace) (named' : IsNamed ns) where
       of-item (ast.identity w x y) e i = absurd i
       of-item (ast.lookup x y) e i = absurd i
       of-item (ast.bus x y) e i = absurd i
-
 
 -- the namespaces that an expression names, in order
 abbrev pub spaces_in : ast.Term → List ℕ
@@ -317,7 +314,7 @@ module _ (ns : List Namespace) (named' : IsNamed ns) where
       let z : n + 0 ≡ n = omega arith in
       cons-same _ _ _ _
       (ap (λ ls. let a : Namespace = record { name = m.name; rows = m.rows; items = ls } in a)
-          (items-again n m.items (subst (λ k. k < length ns) z first.0) (subst (λ k. All (IsItem ns k) m.items) z first.1) (subst (λ k. All (IsPlaced k) m.items) z first.2)))
+      (items-again n m.items (subst (λ k. k < length ns) z first.0) (subst (λ k. All (IsItem ns k) m.items) z first.1) (subst (λ k. All (IsPlaced k) m.items) z first.2)))
       (homes-again (n + 1) ms (λ j l. let x = h (suc j) (omega arith) in let e : n + suc j ≡ n + 1 + j = omega arith in (subst (λ k. k < length ns) e x.0, subst (λ k. All (IsItem ns k) (space_at ms j).items) e x.1, subst (λ k. All (IsPlaced k) (space_at ms j).items) e x.2)))
 
 -- each identity and list without polynomials is over the namespace in which it stands

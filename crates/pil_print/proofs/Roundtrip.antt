@@ -1,6 +1,5 @@
 -- What is printed of a file that is accepted is accepted, and means the same.
-use Rattle.std.proofs.Common.{◌≡◌, false, List, [], ap, sym, subst, ◌∙◌}
-use Rattle.pil_syntax.specs.Tree.{Sentence}
+use Rattle.std.proofs.Common.{List, ap, sym, subst, ◌∙◌}
 use Rattle.pil_syntax.proofs.Printed.{dressing}
 use Rattle.pil_ast.specs.Term.{Namespace}
 use Rattle.pil_ast.specs.Sound.{IsSound}
@@ -9,7 +8,7 @@ use Rattle.pil_names.specs.Wrongs.{repeated}
 use Rattle.pil_meaning.specs.Meaning.{meaning}
 use Rattle.pil_meaning.specs.Soundness.{HasNumbers, IsUnbroken}
 use Rattle.pil_meaning.proofs.Whole.{sound}
-use Rattle.pil_print.specs.Laws.{IsAccepted, IsReprinted, KeepsMeaning}
+use Rattle.pil_print.specs.Laws.{KeepsMeaning}
 use Rattle.pil_print.proofs.Outlines.{outline-is}
 use Rattle.pil_print.proofs.Rereads.{meaning-again}
 use Rattle.pil_print.proofs.Meanings.{meaning-named, meaning-placed}
@@ -26,12 +25,12 @@ keeps_meaning ss h =
     let placed = meaning-placed (outline_of ss) h.unbroken.unknown in
     record {
       accepted = record {
-          tokens = tokens-again ns (meaning-names ss h.tokens) well;
-          file = file-again dressing ss h.file;
-          numbers = subst HasNumbers (sym (outline-is ns)) (numbers-again ns well);
-          short = short-again ns well;
-          repeated = ap repeated (outline-is ns) ∙ repeats-none ns named;
-          unbroken = subst IsUnbroken (sym (outline-is ns)) (unbroken-again ns well named placed);
-        };
+        tokens = tokens-again ns (meaning-names ss h.tokens) well;
+        file = file-again dressing ss h.file;
+        numbers = subst HasNumbers (sym (outline-is ns)) (numbers-again ns well);
+        short = short-again ns well;
+        repeated = ap repeated (outline-is ns) ∙ repeats-none ns named;
+        unbroken = subst IsUnbroken (sym (outline-is ns)) (unbroken-again ns well named placed);
+      };
       same = ap meaning (outline-is ns) ∙ meaning-again ns well named placed;
     }

@@ -1,12 +1,12 @@
 -- A printed text has the signs that are counted of what is printed.
-use Rattle.std.proofs.Common.{ℕ, suc, All, ◌<◌, ◌≡◌, ◌≤◌, ◌+◌, List, [], ◌∷◌, ◌++◌, Bool, true, false, cond, length, map, sum_by, count_by, Option, Some, None, refl, sym, ap, ◌∙◌, arith}
-use Rattle.std.specs.Prelude.{flat_map, option_map}
+use Rattle.std.proofs.Common.{ℕ, suc, All, ◌<◌, ◌≡◌, ◌≤◌, ◌+◌, List, [], ◌∷◌, ◌++◌, false, cond, length, map, sum_by, Option, Some, None, refl, ◌∙◌, arith}
+use Rattle.std.specs.Prelude.{flat_map}
 use Rattle.std.proofs.lemmas.List.{length-map}
 use Rattle.std.proofs.lemmas.List.Sums.{sum_by-cons, sum_by-append}
 use Rattle.std.proofs.lemmas.List.Elements.{All-head, All-tail}
 use Rattle.pil_token.specs.declared.token.Placed.{Placed}
 use Rattle.pil_token.specs.declared.token.Mark.{Mark}
-use Rattle.pil_token.specs.declared.token.Mark.TheVariants.{Percent, Equals, Semicolon, OpenParen, CloseParen, OpenBrace, CloseBrace, OpenBracket, CloseBracket, Comma, Dot, Prime, Plus, Minus, Star, Colon}
+use Rattle.pil_token.specs.declared.token.Mark.TheVariants.{Equals, Semicolon, OpenParen, CloseParen, OpenBrace, CloseBrace, Comma, Plus, Minus, Star}
 use Rattle.pil_token.specs.declared.token.Word.TheVariants as words
 use Rattle.pil_syntax.specs.declared.tree.Ident.{Ident}
 use Rattle.pil_syntax.specs.declared.tree.Number.{Number}
@@ -17,7 +17,7 @@ use Rattle.pil_ast.specs.Term as ast
 use Rattle.pil_ast.specs.Term.{Namespace, Line, Tuples, space_at}
 use Rattle.pil_ast.specs.Sound.{signs_of_lists, signs_of_item, signs, IsList, IsItem, IsSound}
 use Rattle.pil_meaning.specs.Soundness.{is_sign, IsShort}
-use Rattle.pil_print.specs.Statements.{ident, numeral as numeral_of, named, column_reference, expression, selector, tuple, statement, statements_of, sentences_of}
+use Rattle.pil_print.specs.Statements.{ident, numeral as numeral_of, column_reference, expression, tuple, statement, statements_of, sentences_of}
 
 abbrev weight : Placed → ℕ
 weight t = cond (is_sign t) 1 0

@@ -1,32 +1,32 @@
 -- A printed text breaks no rule, where what is printed is sound, its names aren't repeated and its lines are in their places.
-use Rattle.std.proofs.Common.{ℕ, zero, suc, ◌≡◌, ◌<◌, ◌≤◌, ◌+◌, ◌-◌, ◌^◌, List, [], ◌∷◌, ◌++◌, Bool, true, false, not, ◌&&◌, nat_lt, nat_le, nat_eq, cond, length, map, take, filter, sum_by, Option, Some, None, refl, sym, ap, subst, ◌∙◌, arith, All, inl, inr}
-use Rattle.std.specs.Prelude.{flat_map, unwrap_or, option_map, is_some, is_none}
+use Rattle.std.proofs.Common.{ℕ, zero, suc, ◌≡◌, ◌<◌, ◌≤◌, ◌+◌, ◌^◌, List, [], ◌∷◌, ◌++◌, Bool, true, false, not, ◌&&◌, nat_lt, nat_le, nat_eq, length, map, Option, Some, None, refl, sym, ap, subst, ◌∙◌, arith, All, inl, inr}
+use Rattle.std.specs.Prelude.{flat_map, option_map, is_some}
 use Rattle.std.proofs.lemmas.Bool.{cases_lt}
-use Rattle.std.proofs.lemmas.List.{append-nil, map-append, length-map}
-use Rattle.std.proofs.lemmas.List.Elements.{All-nil, All-cons, All-head, All-tail, All-append}
+use Rattle.std.proofs.lemmas.List.{length-map}
+use Rattle.std.proofs.lemmas.List.Elements.{All-nil, All-cons, All-head, All-tail}
 use Rattle.std.proofs.lemmas.Grind.{common_steps, flat_map-append}
 use Rattle.gold.specs.Field.{p}
 use Rattle.pil_syntax.specs.declared.tree.Ident.{Ident}
 use Rattle.pil_syntax.specs.declared.tree.Number.{Number}
 use Rattle.pil_syntax.specs.declared.tree.Reference.{Reference}
 use Rattle.pil_syntax.specs.declared.tree.Size.TheVariants as sizes
-use Rattle.pil_syntax.specs.Tree.{Term, num, col, constant, public, opp, group, ◌⊕◌, ◌⊖◌, ◌⊗◌, Tuple}
+use Rattle.pil_syntax.specs.Tree.{Term, num, col, constant, public, opp, group, ◌⊕◌, ◌⊖◌, ◌⊗◌}
 use Rattle.pil_syntax.specs.Grammar.{Level, expr, term, fact}
 use Rattle.pil_syntax.specs.Printing.{dressed}
 use Rattle.pil_ast.specs.Term as ast
 use Rattle.pil_ast.specs.Term.{Namespace, Line, Tuples, item_at, inter_at, space_at, columns_of, width}
 use Rattle.pil_ast.specs.Written.{marked}
-use Rattle.pil_ast.specs.Sound.{IsTerm, IsSelector, IsList, IsItem, IsLength, IsInter, IsAcyclic, IsSound}
+use Rattle.pil_ast.specs.Sound.{IsTerm, IsList, IsItem, IsLength, IsInter, IsAcyclic, IsSound}
 use Rattle.pil_names.specs.Outline.{Draft, Home, Outline, home_at, draft_at}
-use Rattle.pil_names.specs.Finding.{Entry, found, home_entries, public_entries, polynomials_from, polynomial_entries, home_named, item_named}
-use Rattle.pil_names.specs.Wrongs.{each_from, each_item, unless, each_name, terms_of, terms_of_list, repeated, repeated_among, unknown, unknown_index, length_of, unknown_in_item, unknown_in_home, unknown_reference, unknown_constant, unknown_public, is_public_item, is_public_in, unknown_in_size, unknown_in_term, unknown_in_draft, bad_size, bad_public_row, bad_row_of_draft, bad_rows, rows_of, references, home_or, home_of_terms, stray, strays, mixed_in, mixed_in_draft, mixed, wrong_length, other_width, other_widths, width_of_first, wrong_widths_of, wrong_widths}
-use Rattle.pil_meaning.specs.Meaning.{read_reference, meaning}
-use Rattle.pil_meaning.specs.Marks.{is_marked_in, double_of, double_at, double_reference, double_in_term, double_in_draft, double}
+use Rattle.pil_names.specs.Finding.{found, polynomials_from, polynomial_entries, home_named, item_named}
+use Rattle.pil_names.specs.Wrongs.{each_from, each_item, unless, each_name, terms_of, terms_of_list, repeated, repeated_among, unknown_index, length_of, unknown_in_item, unknown_in_home, unknown_reference, unknown_constant, unknown_public, is_public_item, is_public_in, unknown_in_size, unknown_in_term, unknown_in_draft, bad_size, bad_public_row, bad_row_of_draft, rows_of, references, home_or, stray, strays, mixed_in, mixed_in_draft, wrong_length, other_width, other_widths, width_of_first, wrong_widths_of}
+use Rattle.pil_meaning.specs.Meaning.{meaning}
+use Rattle.pil_meaning.specs.Marks.{double_at, double_reference, double_in_term, double_in_draft}
 use Rattle.pil_meaning.specs.Soundness.{IsUnbroken}
-use Rattle.pil_print.specs.Statements.{ident, numeral, name_of, is_constant, is_commit, declared, Spot, spot_in, index_in, mark_of, reference_to, column_reference, inter_reference, published, named, expression, tuple}
+use Rattle.pil_print.specs.Statements.{ident, numeral, name_of, is_constant, is_commit, declared, spot_in, index_in, mark_of, reference_to, column_reference, inter_reference, named, expression, tuple}
 use Rattle.pil_print.proofs.Printable.{publics-counted}
-use Rattle.pil_print.proofs.Outlines.{draft, home, outline, home-at, draft-at, IsNamed, space-found, public-found, IsPolynomial, polynomial-found, IsAt, column-place}
-use Rattle.pil_print.proofs.Rereads.{spaces_in, sel_terms, IsPlacedList, IsPlaced, ArePlaced, column-again, inter-again, references-dressed, list-terms, constant-polynomial, commit-polynomial, spaces-of-all, home-again, list-all, meaning-again}
+use Rattle.pil_print.proofs.Outlines.{draft, home, outline, home-at, draft-at, IsNamed, space-found, public-found, IsPolynomial, polynomial-found, column-place}
+use Rattle.pil_print.proofs.Rereads.{spaces_in, sel_terms, IsPlacedList, IsPlaced, ArePlaced, column-again, inter-again, list-terms, constant-polynomial, commit-polynomial, spaces-of-all, home-again, list-all, meaning-again}
 
 none-joined : (a b : List ℕ) → a ≡ [] → b ≡ [] → a ++ b ≡ []
 none-joined a b p q = ap (λ s. s ++ b) p ∙ q
@@ -106,7 +106,7 @@ module _ (ns : List Namespace) (named' : IsNamed ns) where
   item-found m j item i b l within is same =
       ap (λ (h : Home). found (name_of item) (polynomials_from 0 h.items)) (home-at ns ns m l)
       ∙ (ap (λ (x : Line). found (name_of x) (polynomials_from 0 (map (draft ns) (space_at ns m).items))) (sym same)
-          ∙ polynomial-found ns m j named' l within (subst IsPolynomial (sym same) is))
+      ∙ polynomial-found ns m j named' l within (subst IsPolynomial (sym same) is))
 
   known-again : (s m j : ℕ) (item : Line) (i : Option Number) (b : Bool) → m < length ns → j < length (space_at ns m).items → IsPolynomial item → item_at (space_at ns m).items j ≡ item
       → unknown_reference (outline ns) s (reference_to ns m item i b) ≡ unknown_index 0 (length_of (draft ns item)) i
@@ -115,8 +115,8 @@ module _ (ns : List Namespace) (named' : IsNamed ns) where
       let r = reference_to ns m item i b in
       ap (unknown_in_home o r) (space-found ns m named' l)
       ∙ (ap (unknown_in_item r (home_at o.homes m).items) (item-found m j item i b l within is same)
-          ∙ (ap (λ (h : Home). unknown_index 0 (length_of (draft_at h.items j)) i) (home-at ns ns m l)
-              ∙ ap (λ (d : Draft). unknown_index 0 (length_of d) i) (draft-at ns (space_at ns m).items j within ∙ ap (draft ns) same)))
+      ∙ (ap (λ (h : Home). unknown_index 0 (length_of (draft_at h.items j)) i) (home-at ns ns m l)
+      ∙ ap (λ (d : Draft). unknown_index 0 (length_of d) i) (draft-at ns (space_at ns m).items j within ∙ ap (draft ns) same)))
 
   constant-known : (item : Line) (n : ℕ) → is_constant item ≡ true → n < columns_of item → unknown_index 0 (length_of (draft ns item)) (index_in item n) ≡ []
   constant-known (ast.constant x None) n e l = refl
@@ -164,24 +164,24 @@ module _ (ns : List Namespace) (named' : IsNamed ns) where
       let r = reference_to ns m item i b in
       ap (is_public_in o r) (space-found ns m named' l)
       ∙ (ap (is_public_item (home_at o.homes m).items) (item-found m j item i b l within is same)
-          ∙ (ap (λ (k : Home). is_public_item (draft_at k.items j ∷ []) (Some 0)) (home-at ns ns m l)
-              ∙ (ap (λ (d : Draft). is_public_item (d ∷ []) (Some 0)) (draft-at ns (space_at ns m).items j within ∙ ap (draft ns) same) ∙ h)))
+      ∙ (ap (λ (k : Home). is_public_item (draft_at k.items j ∷ []) (Some 0)) (home-at ns ns m l)
+      ∙ (ap (λ (d : Draft). is_public_item (d ∷ []) (Some 0)) (draft-at ns (space_at ns m).items j within ∙ ap (draft ns) same) ∙ h)))
 
   column-known : (s m k : ℕ) (b : Bool) → m < length ns → k < width (space_at ns m).items → unknown_reference (outline ns) s (column_reference ns m k b) ≡ []
   column-known s m k b l h =
       let spot = spot_in (declared (space_at ns m).items) k in
       elim (column-place (space_at ns m).items k h) [
-      | inl at ↦ known-again s m at.place spot.item (index_in spot.item spot.index) b l at.within (constant-polynomial ns named' spot.item at.kind) at.item ∙ constant-known spot.item spot.index at.kind at.index
-      | inr at ↦ known-again s m at.1.place spot.item (index_in spot.item spot.index) b l at.1.within (commit-polynomial ns named' spot.item at.1.kind) at.1.item ∙ commit-known spot.item spot.index at.1.kind at.1.index
-    ]
+        | inl at ↦ known-again s m at.place spot.item (index_in spot.item spot.index) b l at.within (constant-polynomial ns named' spot.item at.kind) at.item ∙ constant-known spot.item spot.index at.kind at.index
+        | inr at ↦ known-again s m at.1.place spot.item (index_in spot.item spot.index) b l at.1.within (commit-polynomial ns named' spot.item at.1.kind) at.1.item ∙ commit-known spot.item spot.index at.1.kind at.1.index
+      ]
 
   column-public : (s m k : ℕ) (b : Bool) → m < length ns → k < width (space_at ns m).items → is_public_in (outline ns) (column_reference ns m k b) (home_named (outline ns) s (column_reference ns m k b).space) ≡ true
   column-public s m k b l h =
       let spot = spot_in (declared (space_at ns m).items) k in
       elim (column-place (space_at ns m).items k h) [
-      | inl at ↦ public-again s m at.place spot.item (index_in spot.item spot.index) b l at.within (constant-polynomial ns named' spot.item at.kind) at.item (constant-public spot.item 0 at.kind)
-      | inr at ↦ public-again s m at.1.place spot.item (index_in spot.item spot.index) b l at.1.within (commit-polynomial ns named' spot.item at.1.kind) at.1.item (commit-public spot.item 0 at.1.kind)
-    ]
+        | inl at ↦ public-again s m at.place spot.item (index_in spot.item spot.index) b l at.within (constant-polynomial ns named' spot.item at.kind) at.item (constant-public spot.item 0 at.kind)
+        | inr at ↦ public-again s m at.1.place spot.item (index_in spot.item spot.index) b l at.1.within (commit-polynomial ns named' spot.item at.1.kind) at.1.item (commit-public spot.item 0 at.1.kind)
+      ]
 
   inter-known : (s m k : ℕ) (b : Bool) → m < length ns → k < length (space_at ns m).items → IsInter (item_at (space_at ns m).items k) → unknown_reference (outline ns) s (inter_reference ns m k b) ≡ []
   inter-known s m k b l within is = of-item (item_at (space_at ns m).items k) refl is
@@ -225,7 +225,7 @@ module _ (ns : List Namespace) (named' : IsNamed ns) where
   named-single again s m (ast.mid n k b) l h =
       ap (λ t. double_at (meaning (outline ns)) t (mark_of b)) (inter-again ns named' s n k b (subst (λ j. j < length ns) (sym h.0) l) (subst (λ j. k < length (space_at ns j).items) (sym h.0) h.1.0) (subst (λ j. IsInter (item_at (space_at ns j).items k)) (sym h.0) h.1.1))
       ∙ (ap (λ ms. double_at ms (ast.mid n k b) (mark_of b)) again
-          ∙ double-inter n k b (subst (λ j. b ≡ true → marked (space_at ns j).items (inter_at (space_at ns j).items k) ≡ false) (sym h.0) h.1.2))
+      ∙ double-inter n k b (subst (λ j. b ≡ true → marked (space_at ns j).items (inter_at (space_at ns j).items k) ≡ false) (sym h.0) h.1.2))
   named-single again s m (ast.public k) l h = refl
   named-single again s m (ast.opp a) l h = named-single again s m a l h
   named-single again s m (ast.◌⊕◌ a b) l h = none-joined _ _ (named-single again s m a l h.0) (named-single again s m b l h.1)
@@ -287,7 +287,7 @@ module _ (ns : List Namespace) (sound : IsSound ns) (named' : IsNamed ns) (place
       let es = sel_terms a.sel ++ a.terms in
       ap (mixed_in (outline ns) s) (list-terms ns a)
       ∙ (ap (λ m. strays (outline ns) s m (map (expression ns) es)) (home-again ns named' s a.space es h.space (list-all ns named' wide a h) ∙ g)
-          ∙ terms-alike s a.space es h.space (list-all ns named' wide a h))
+      ∙ terms-alike s a.space es h.space (list-all ns named' wide a h))
 
   lists-alike : (s wide : ℕ) (ls : List Tuples) → All (IsList ns wide) ls → All (IsPlacedList s) ls → flat_map (λ l. mixed_in (outline ns) s (terms_of_list l)) (map (tuple ns) ls) ≡ []
   lists-alike s wide ls h g = flat-none (λ l. mixed_in (outline ns) s (terms_of_list l)) (tuple ns) ls (λ k d w. list-alike s wide _ (h k d w) (g k d w))

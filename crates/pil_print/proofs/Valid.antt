@@ -1,26 +1,22 @@
 -- A printed text has names and numbers that a text can have, and the printed numbers are of the field.
-use Rattle.std.proofs.Common.{ℕ, zero, suc, ◌≡◌, ◌<◌, ◌≤◌, ◌+◌, ◌-◌, ◌^◌, List, [], ◌∷◌, ◌++◌, Bool, true, false, length, map, take, filter, sum_by, Option, Some, None, refl, sym, ap, subst, ◌∙◌, arith, All, inl, inr}
+use Rattle.std.proofs.Common.{ℕ, zero, suc, ◌≡◌, ◌<◌, ◌+◌, List, [], ◌∷◌, ◌++◌, Bool, true, false, length, map, filter, Option, Some, None, refl, sym, ap, subst, arith, All, inl, inr}
 use Rattle.std.specs.Prelude.{flat_map, option_map}
-use Rattle.std.proofs.lemmas.List.{append-nil, map-append, length-map}
 use Rattle.std.proofs.lemmas.List.Elements.{All-nil, All-cons, All-head, All-tail, All-append, All-map, All-weaker}
 use Rattle.gold.specs.Field.{p}
 use Rattle.pil_token.specs.declared.token.Placed.{Placed}
 use Rattle.pil_token.specs.declared.token.Mark.{Mark}
-use Rattle.pil_token.specs.declared.token.Mark.TheVariants.{Percent, Equals, Semicolon, OpenParen, CloseParen, OpenBrace, CloseBrace, OpenBracket, CloseBracket, Comma, Dot, Prime, Plus, Minus, Star, Colon}
+use Rattle.pil_token.specs.declared.token.Mark.TheVariants.{Equals, Semicolon, OpenParen, CloseParen, OpenBrace, CloseBrace, Comma, Plus, Minus, Star}
 use Rattle.pil_token.specs.declared.token.Word.TheVariants.{In, Is}
 use Rattle.pil_token.specs.Spelling.{IsName}
 use Rattle.pil_token.specs.Spelled.{IsToken}
-use Rattle.pil_syntax.specs.declared.tree.Ident.{Ident}
 use Rattle.pil_syntax.specs.declared.tree.Number.{Number}
-use Rattle.pil_syntax.specs.declared.tree.Reference.{Reference}
 use Rattle.pil_syntax.specs.declared.tree.Declaration.{Declaration}
 use Rattle.pil_syntax.specs.declared.tree.ColumnKind.{ColumnKind}
 use Rattle.pil_syntax.specs.declared.tree.ColumnKind.TheVariants.{Constant, Commit}
-use Rattle.pil_syntax.specs.declared.tree.Size.TheVariants as sizes
-use Rattle.pil_syntax.specs.Tree.{Term, num, col, constant, public, opp, group, ◌⊕◌, ◌⊖◌, ◌⊗◌, Filter, every, by_col, by_group, Tuple, Sentence, constant_is, namespace_of, columns, intermediate, public_is, identity, lookup, bus}
+use Rattle.pil_syntax.specs.Tree.{Term, num, col, constant, public, opp, group, ◌⊕◌, ◌⊖◌, ◌⊗◌, Sentence, constant_is, namespace_of, columns, intermediate, public_is, identity, lookup, bus}
 use Rattle.pil_syntax.specs.Grammar.{Level, expr, term, fact}
 use Rattle.pil_syntax.specs.Printing.{dressed}
-use Rattle.pil_syntax.specs.Spelling.{mark, marked, word, name, space_tokens, index_tokens, next_tokens, ref_tokens, term_tokens, filter_tokens, joined, tuple_tokens, declaration_tokens, size_tokens, sentence_tokens, tokens_of}
+use Rattle.pil_syntax.specs.Spelling.{mark, marked, word, index_tokens, next_tokens, ref_tokens, term_tokens, filter_tokens, joined, tuple_tokens, declaration_tokens, sentence_tokens, tokens_of}
 use Rattle.pil_ast.specs.Term as ast
 use Rattle.pil_ast.specs.Term.{Namespace, Line, Tuples, item_at, space_at, columns_of, width}
 use Rattle.pil_ast.specs.Sound.{IsTerm, IsSelector, IsList, IsItem, IsLength, IsInter, IsSound}
@@ -31,9 +27,9 @@ use Rattle.pil_meaning.specs.Meaning.{read_draft, read_homes, meaning}
 use Rattle.pil_meaning.specs.Soundness.{IsInField, HasNumbers}
 use Rattle.pil_meaning.proofs.Nothing.{home_all}
 use Rattle.pil_meaning.proofs.Places.{reading}
-use Rattle.pil_print.specs.Statements.{ident, numeral, name_of, is_constant, is_commit, is_public, declared, Spot, spot_in, index_in, mark_of, reference_to, column_reference, inter_reference, published as published_of, named, expression, selector_of, selector, tuple, declaration, statement, statements_of, sentences_of}
+use Rattle.pil_print.specs.Statements.{numeral, name_of, is_constant, is_commit, is_public, declared, spot_in, index_in, mark_of, reference_to, column_reference, published as published_of, named, expression, selector_of, selector, tuple, statement, statements_of, sentences_of}
 use Rattle.pil_print.proofs.Printable.{publics-counted}
-use Rattle.pil_print.proofs.Outlines.{draft, home, outline, IsAt, column-place}
+use Rattle.pil_print.proofs.Outlines.{draft, home, outline, column-place}
 use Rattle.pil_print.proofs.Rereads.{sel_terms, list-terms}
 use Rattle.pil_print.proofs.Lexed.{AreTokens, both, are-tokens}
 
@@ -155,11 +151,11 @@ module _ (ns : List Namespace) (names : HaveNames ns) (sound : IsSound ns) where
       let ls = (space_at ns m).items in
       let spot = spot_in (declared (space_at ns m).items) k in
       elim (column-place (space_at ns m).items k h) [
-      | inl at ↦ ref-tokens m spot.item (index_in spot.item spot.index) b l (constant-name spot.item at.kind (subst IsNamedLine at.item (all-at IsNamedLine ls at.place (names.items m l) at.within)))
-          (index-tokens spot.item spot.index (omega (arith, at.index, columns-few ns m spot.item (subst (IsItem ns m) at.item (all-at (IsItem ns m) ls at.place (sound.spaces m l).items at.within)))))
-      | inr at ↦ ref-tokens m spot.item (index_in spot.item spot.index) b l (commit-name spot.item at.1.kind (subst IsNamedLine at.1.item (all-at IsNamedLine ls at.1.place (names.items m l) at.1.within)))
-          (index-tokens spot.item spot.index (omega (arith, at.1.index, columns-few ns m spot.item (subst (IsItem ns m) at.1.item (all-at (IsItem ns m) ls at.1.place (sound.spaces m l).items at.1.within)))))
-    ]
+        | inl at ↦ ref-tokens m spot.item (index_in spot.item spot.index) b l (constant-name spot.item at.kind (subst IsNamedLine at.item (all-at IsNamedLine ls at.place (names.items m l) at.within)))
+            (index-tokens spot.item spot.index (omega (arith, at.index, columns-few ns m spot.item (subst (IsItem ns m) at.item (all-at (IsItem ns m) ls at.place (sound.spaces m l).items at.within)))))
+        | inr at ↦ ref-tokens m spot.item (index_in spot.item spot.index) b l (commit-name spot.item at.1.kind (subst IsNamedLine at.1.item (all-at IsNamedLine ls at.1.place (names.items m l) at.1.within)))
+            (index-tokens spot.item spot.index (omega (arith, at.1.index, columns-few ns m spot.item (subst (IsItem ns m) at.1.item (all-at (IsItem ns m) ls at.1.place (sound.spaces m l).items at.1.within)))))
+      ]
 
   named-tokens : (m : ℕ) (e : ast.Term) → m < length ns → IsTerm ns m e → AreTokens (term_tokens (named ns e))
   named-tokens m (ast.num n) l h = (h, tt)
@@ -195,9 +191,11 @@ module _ (ns : List Namespace) (names : HaveNames ns) (sound : IsSound ns) where
 
   tuple-tokens : (wide : ℕ) (a : Tuples) → IsList ns wide a → AreTokens (tuple_tokens (tuple ns a))
   tuple-tokens wide a h =
-      joined-tokens (filter_tokens (selector ns a.sel)) (marked OpenBrace 0 ∷ (joined Comma term_tokens (map (expression ns) a.terms) ++ mark CloseBrace ∷ [])) (selector-tokens a.space a.sel h.space h.sel)
-      (tt, joined-tokens (joined Comma term_tokens (map (expression ns) a.terms)) (mark CloseBrace ∷ [])
-          (parted-tokens Comma term_tokens (map (expression ns) a.terms) (All-map (λ t. AreTokens (term_tokens t)) (expression ns) a.terms (All-weaker (λ e. IsTerm ns a.space e) (λ e. AreTokens (term_tokens (expression ns e))) (λ e. expr-tokens a.space e h.space) a.terms h.terms))) (tt, tt))
+      joined-tokens (filter_tokens (selector ns a.sel)) (marked OpenBrace 0 ∷ (joined Comma term_tokens (map (expression ns) a.terms) ++ mark CloseBrace ∷ [])) (selector-tokens a.space a.sel h.space h.sel) (
+        tt,
+        joined-tokens (joined Comma term_tokens (map (expression ns) a.terms)) (mark CloseBrace ∷ [])
+            (parted-tokens Comma term_tokens (map (expression ns) a.terms) (All-map (λ t. AreTokens (term_tokens t)) (expression ns) a.terms (All-weaker (λ e. IsTerm ns a.space e) (λ e. AreTokens (term_tokens (expression ns e))) (λ e. expr-tokens a.space e h.space) a.terms h.terms))) (tt, tt),
+      )
 
   tuples-tokens : (wide : ℕ) (ls : List Tuples) → All (IsList ns wide) ls → AreTokens (joined Plus tuple_tokens (map (tuple ns) ls))
   tuples-tokens wide ls h = parted-tokens Plus tuple_tokens (map (tuple ns) ls) (All-map (λ t. AreTokens (tuple_tokens t)) (tuple ns) ls (All-weaker (IsList ns wide) (λ a. AreTokens (tuple_tokens (tuple ns a))) (tuple-tokens wide) ls h))
@@ -227,10 +225,26 @@ module _ (ns : List Namespace) (names : HaveNames ns) (sound : IsSound ns) where
   spaces-tokens n (m ∷ ms) h =
       let first = h 0 (omega arith) in
       let space = sound.spaces (n + 0) first.0 in
-      let few : m.rows < 18446744069414584321 = omega (arith, space.few_rows, ap (λ (k : Namespace). k.rows) first.1) in
-      (tt, (subst (λ (k : Namespace). IsName k.name) first.1 (names.spaces (n + 0) first.0), (tt, (few, (tt, (tt,
-          items-tokens (n + 0) m.items (flat_map (statements_of ns) ms) first.0 (subst (λ (k : Namespace). All (IsItem ns (n + 0)) k.items) first.1 space.items) (subst (λ (k : Namespace). All IsNamedLine k.items) first.1 (names.items (n + 0) first.0))
-          (spaces-tokens (n + 1) ms (λ j l. let e : n + suc j ≡ n + 1 + j = omega arith in let x = h (suc j) (omega arith) in (subst (λ k. k < length ns) e x.0, subst (λ k. space_at ns k ≡ space_at ms j) e x.1)))))))))
+      let few : m.rows < 18446744069414584321 = omega (arith, space.few_rows, ap (λ (k : Namespace). k.rows) first.1) in (
+        tt,
+        (
+          subst (λ (k : Namespace). IsName k.name) first.1 (names.spaces (n + 0) first.0),
+          (
+            tt,
+            (
+              few,
+              (
+                tt,
+                (
+                  tt,
+                  items-tokens (n + 0) m.items (flat_map (statements_of ns) ms) first.0 (subst (λ (k : Namespace). All (IsItem ns (n + 0)) k.items) first.1 space.items) (subst (λ (k : Namespace). All IsNamedLine k.items) first.1 (names.items (n + 0) first.0))
+                      (spaces-tokens (n + 1) ms (λ j l. let e : n + suc j ≡ n + 1 + j = omega arith in let x = h (suc j) (omega arith) in (subst (λ k. k < length ns) e x.0, subst (λ k. space_at ns k ≡ space_at ms j) e x.1))),
+                ),
+              ),
+            ),
+          ),
+        ),
+      )
 
 pub tokens-again : (ns : List Namespace) → HaveNames ns → IsSound ns → All (λ t. IsToken t.token) (tokens_of (sentences_of ns))
 tokens-again ns names sound = from-tokens (tokens_of (sentences_of ns)) (spaces-tokens ns names sound 0 ns (λ j l. let z : j ≡ 0 + j = omega arith in (subst (λ k. k < length ns) z l, ap (space_at ns) (sym z))))
