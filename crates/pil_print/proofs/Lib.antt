@@ -1,0 +1,14 @@
+pub mod Texts
+pub mod Starts
+pub mod Printable
+pub mod Lexed
+pub mod Outlines
+pub mod Rereads
+pub mod Meanings
+pub mod Roundtrip
+pub mod Unbroken
+pub mod Files
+pub mod Valid
+pub mod Short
+pub mod Moved
+pub mod Readings

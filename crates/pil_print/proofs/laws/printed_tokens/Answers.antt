@@ -1,0 +1,5 @@
+use Rattle.pil_print.proofs.Lexed.{whole_text}
+use Rattle.pil_print.proofs.laws.printed_tokens.Goals as goal
+
+pub returns : goal.returns
+returns c = record { tokens = whole_text }
