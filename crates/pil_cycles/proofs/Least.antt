@@ -46,5 +46,6 @@ told items users verdicts h v = record {
   long = length-map verdicts is_cyclic ∙ v.long ∙ h.long;
   each = λ k. (
     λ e. depends_from items k k (path_mapped (Uses users) (NamesAt items) (λ x y w. (h.those x y).0 w) k k (v.right.cyclic k (cyclic_of (slice_get verdicts k) (sym (get_map verdicts k) ∙ e)))),
-    λ d. get_map verdicts k ∙ ap (option_map is_cyclic) (cyclic_one items users verdicts h v k d));
+    λ d. get_map verdicts k ∙ ap (option_map is_cyclic) (cyclic_one items users verdicts h v k d),
+  );
 }
