@@ -1,0 +1,151 @@
+#!/usr/bin/env python3
+"""Hostile constraint texts and table files: what `zkw pil` says of each, in what time and with how much
+memory, beside the file's size.
+
+Usage: hostile.py ZKW, the built program. Ends with 1 where an answer is another than the one named here.
+"""
+import os
+import struct
+import sys
+import tempfile
+import time
+
+SIZE = 1 << 20
+HEAD = "namespace A(2); pol commit x; "
+
+
+def filled(text, part, end=""):
+    """The text, the part as often as it fits, and the end: at most 2^20 bytes."""
+    return text + part * ((SIZE - len(text) - len(end)) // len(part)) + end
+
+
+def numbered(text, line):
+    """The text and the lines with the numbers from 1 on, as many as fit."""
+    parts, length, n = [text], len(text), 0
+    while True:
+        n += 1
+        part = line.format(n=n, m=n - 1)
+        length += len(part)
+        if length > SIZE:
+            return "".join(parts)
+        parts.append(part)
+
+
+def run(program, pil, tables):
+    start = time.perf_counter()
+    read, write = os.pipe()
+    child = os.fork()
+    if child == 0:
+        os.dup2(write, 1)
+        os.execv(program, [program, "pil", pil, tables])
+    os.close(write)
+    with os.fdopen(read) as pipe:
+        said = pipe.read()
+    usage = os.wait4(child, 0)[2]
+    return said, time.perf_counter() - start, usage.ru_maxrss * 1024
+
+
+def header(*counts):
+    return struct.pack("<III", 0x54574B5A, 1, len(counts)) + struct.pack(f"<{len(counts)}I", *counts)
+
+
+TABLES = header(1) + struct.pack("<IIII2Q", 0, 0, 1, 2, 5, 7)
+SHORT = "bad tables Short 0\n"
+
+TEXTS = [
+    ("2^20 opening parentheses", filled(HEAD, "("), "bad pil TooDeep 62\n"),
+    ("2^20 prefix minuses", filled(HEAD, "-"), "bad pil TooDeep 62\n"),
+    ("an unfinished comment", filled("/*", " *"), "bad pil BadByte 0\n"),
+    ("NUL bytes", "\0" * SIZE, "bad pil BadByte 0\n"),
+    ("a byte above 127", HEAD + "x\xe9", f"bad pil BadByte {len(HEAD) + 1}\n"),
+    ("a name of 2^20 letters", filled("", "a"), "bad pil Unexpected 0\n"),
+    ("an unknown name of 2^20 letters", filled(HEAD, "y", " = 0;"), f"bad pil UnknownName {len(HEAD)}\n"),
+    ("constants of one name", filled("", "constant %a=1;"), "bad pil Repeated 24\n"),
+    ("arrays of 4,096", numbered("namespace A(2);pol commit a[4096]", ",b{n}[4096]") + ";", SHORT),
+    ("arrays of p - 1", numbered("namespace A(2);pol commit a[4096]", ",b{n}[18446744069414584320]") + ";", "bad pil WrongWidth 37\n"),
+    ("namespaces", numbered("", "namespace a{n}(2);"), SHORT),
+    ("intermediates that nest", numbered(HEAD + "pol s0 = x;", "pol s{n}=s{m};"), SHORT),
+    ("a chain of doublings", numbered(HEAD + "pol s0 = x;", "pol s{n}=s{m}+s{m};"), SHORT),
+    ("a long cycle", numbered(HEAD + "pol s0 = s1000;", "pol s{n}=s{m};"), "bad pil CyclicPol 34\n"),
+    ("a mark at a chain's end", numbered(HEAD + "pol s0 = x';", "pol s{n}=s{m};")[: SIZE - 20].rsplit(";", 1)[0] + ";s9'=0;", None),
+]
+
+SMALL = "namespace A(2); pol commit x; x = x;"
+FILES = [
+    ("2^32 - 1 instances promised", header(0xFFFFFFFF) + bytes(84), "bad tables TooMany 12\n"),
+    ("2^20 instances promised", header(1 << 20) + bytes(84), None),
+    ("2^32 - 1 columns promised", header(1) + struct.pack("<IIII", 0, 0, 0xFFFFFFFF, 2) + bytes(68), "bad tables BadShape 24\n"),
+    ("2^32 - 1 rows promised", header(1) + struct.pack("<IIII", 0, 0, 1, 0xFFFFFFFF) + bytes(68), "bad tables BadShape 28\n"),
+    ("2^32 - 1 airs promised", struct.pack("<III", 0x54574B5A, 1, 0xFFFFFFFF) + bytes(88), "bad tables BadAir 8\n"),
+    ("a value of p", header(1) + struct.pack("<IIII2Q", 0, 0, 1, 2, 2**64 - 2**32 + 1, 0), "bad tables NotCanonical 32\n"),
+]
+
+
+P = 2**64 - 2**32 + 1
+
+
+def one_column(values):
+    return header(1) + struct.pack("<IIII", 0, 0, 1, len(values)) + struct.pack(f"<{len(values)}Q", *values)
+
+
+def deep(rows, depth, step, last):
+    """A text of so many intermediates over one column, and its tables."""
+    text = f"namespace A({rows}); pol commit x; pol s0 = x;"
+    text += "".join(f"pol s{n}={step.format(m=n - 1)};" for n in range(1, depth + 1))
+    return text + f"s{depth}={last};", one_column([r % P for r in range(rows)])
+
+
+CHECKS = [
+    ("1,000 intermediates, 2^12 rows", *deep(1 << 12, 1000, "s{m}+1", "x+1000")),
+    ("1,000 intermediates, 2^14 rows", *deep(1 << 14, 1000, "s{m}+1", "x+1000")),
+    ("60 doublings, 2^16 rows", *deep(1 << 16, 60, "s{m}+s{m}", f"x*{2**60 % P}")),
+    ("60 doublings, 2^18 rows", *deep(1 << 18, 60, "s{m}+s{m}", f"x*{2**60 % P}")),
+]
+
+
+def main():
+    program = os.path.abspath(sys.argv[1])
+    wrong = 0
+    with tempfile.TemporaryDirectory() as folder:
+        pil, tables = os.path.join(folder, "a.pil"), os.path.join(folder, "a.tables")
+
+        def measure(name, text, table, wants):
+            nonlocal wrong
+            data = text.encode("latin-1")
+            with open(pil, "wb") as file:
+                file.write(data)
+            with open(tables, "wb") as file:
+                file.write(table)
+            said, seconds, peak = run(program, pil, tables)
+            ok = said == wants if wants else said != ""
+            wrong += not ok
+            size = len(data) + len(table)
+            print(f"{name:34} {size:8} bytes {seconds:6.2f} s {peak / 1e6:7.1f} MB  {said.strip()[:60]}{'' if ok else '  WRONG, wants ' + str(wants)}")
+
+        for name, text, wants in TEXTS:
+            measure(name, text, b"", wants)
+        for name, table, wants in FILES:
+            measure(name, SMALL, table, wants)
+        for name, text, table in CHECKS:
+            measure(name, text, table, "accepted\n")
+        for length in range(len(TABLES)):
+            with open(pil, "w") as file:
+                file.write(SMALL)
+            with open(tables, "wb") as file:
+                file.write(TABLES[:length])
+            said = run(program, pil, tables)[0]
+            if said != f"bad tables Short {length}\n":
+                wrong += 1
+                print(f"tables cut at {length}: {said}")
+        for length in range(len(SMALL)):
+            with open(pil, "w") as file:
+                file.write(SMALL[:length])
+            said = run(program, pil, tables)[0]
+            if not said.startswith(("bad pil ", "bad tables ")):
+                wrong += 1
+                print(f"text cut at {length}: {said}")
+    print(f"{wrong} wrong")
+    sys.exit(1 if wrong else 0)
+
+
+main()
