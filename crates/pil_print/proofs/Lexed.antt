@@ -1,5 +1,5 @@
--- The printed text of statements has the tokens of the statements.
-use Rattle.std.proofs.Common.{ℕ, ◌≡◌, ◌<◌, ◌+◌, List, [], ◌∷◌, ◌++◌, Bool, true, false, ◌&&◌, length, map, All, Option, Some, None, Result, Ok, Err, refl, sym, ap, subst, ◌∙◌, arith, append_assoc}
+-- The printed text of statements has the tokens of the statements, and as many signs as they.
+use Rattle.std.proofs.Common.{ℕ, ◌≡◌, ◌<◌, ◌+◌, List, [], ◌∷◌, ◌++◌, Bool, true, false, ◌&&◌, length, map, count_by, All, Option, Some, None, Result, Ok, Err, refl, sym, ap, subst, ◌∙◌, arith, append_assoc}
 use Rattle.std.specs.Prelude.{codes, decimal}
 use Rattle.std.proofs.lemmas.List.{append-nil, map-append}
 use Rattle.std.proofs.lemmas.List.Elements.{All-head, All-tail}
@@ -25,11 +25,15 @@ use Rattle.pil_syntax.specs.declared.tree.Size.TheVariants as sizes
 use Rattle.pil_syntax.specs.Tree.{Term, num, col, constant, public, opp, group, ◌⊕◌, ◌⊖◌, ◌⊗◌, Filter, every, by_col, by_group, Tuple, Sentence, constant_is, namespace_of, columns, intermediate, public_is, identity, lookup, bus}
 use Rattle.pil_syntax.specs.Spelling.{mark, marked, word, name, numeral, space_tokens, index_tokens, next_tokens, ref_tokens, term_tokens, filter_tokens, joined, tuple_tokens, declaration_tokens, kind_word, size_tokens, sentence_tokens, tokens_of}
 use Rattle.pil_syntax.specs.Placeless.{token_of}
+use Rattle.pil_meaning.specs.Soundness.{is_sign}
+use Rattle.pil_meaning.specs.Given.{is_sign_byte}
+use Rattle.pil_print.proofs.Signs.{HasSignsOf, signs-join, signs-one}
 use Rattle.pil_print.specs.Printed.{space_text, index_text, next_text, reference_text, term_text, filter_text, separated, tuple_text, declaration_text, kind_text, size_text, sentence_text, text_of}
 
--- a text is read as these tokens, whatever follows that is apart from it
+-- a text is read as these tokens, whatever follows that is apart from it, and has as many signs
 record Lexes (text : List ℕ) (ps : List Placed) : Type 0 where
   lexes : LexesTo text (map token_of ps)
+  signs : HasSignsOf text ps
 
 -- each is a token that a text can have
 abbrev pub AreTokens : List Placed → Type 0
@@ -71,17 +75,17 @@ join xs (y ∷ ys) ts us apart first second = append_lexes xs (y ∷ ys) ts us (
 
 left : {xs ys : List ℕ} {ps qs : List Placed} → ends_word xs ≡ false → Lexes xs ps → Lexes ys qs → Lexes (xs ++ ys) (ps ++ qs)
 left {xs = xs} {ys = ys} {ps = ps} {qs = qs} e a b =
-    record { lexes = subst (LexesTo (xs ++ ys)) (sym (map-append token_of ps qs)) (join xs ys (map token_of ps) (map token_of qs) (apart-left xs ys e) a.lexes b.lexes) }
+    record { lexes = subst (LexesTo (xs ++ ys)) (sym (map-append token_of ps qs)) (join xs ys (map token_of ps) (map token_of qs) (apart-left xs ys e) a.lexes b.lexes); signs = signs-join xs ys ps qs a.signs b.signs }
 
 right : {xs ys : List ℕ} {ps qs : List Placed} → starts_word ys ≡ false → Lexes xs ps → Lexes ys qs → Lexes (xs ++ ys) (ps ++ qs)
 right {xs = xs} {ys = ys} {ps = ps} {qs = qs} e a b =
-    record { lexes = subst (LexesTo (xs ++ ys)) (sym (map-append token_of ps qs)) (join xs ys (map token_of ps) (map token_of qs) (apart-right xs ys e) a.lexes b.lexes) }
+    record { lexes = subst (LexesTo (xs ++ ys)) (sym (map-append token_of ps qs)) (join xs ys (map token_of ps) (map token_of qs) (apart-right xs ys e) a.lexes b.lexes); signs = signs-join xs ys ps qs a.signs b.signs }
 
 one : (t : Token) (i : ℕ) → IsToken t → Lexes (spelling t) ((let p : Placed = record { token = t; at = i } in p) ∷ [])
-one t i h = record { lexes = spelling_lexes t h }
+one t i h = record { lexes = spelling_lexes t h; signs = signs-one (record { token = t; at = i }) h }
 
 none : Lexes [] []
-none = record { lexes = λ at rest apart. ([], refl, after-none (lexed_from 0 (at + 0) rest) at rest) }
+none = record { lexes = λ at rest apart. ([], refl, after-none (lexed_from 0 (at + 0) rest) at rest); signs = refl }
   where
     after-none : (r : Result (List Placed) LexErr) (at : ℕ) (rest : List ℕ) → lexed_from 0 at rest ≡ after [] (lexed_from 0 (at + 0) rest)
     after-none r at rest = ap (λ k. lexed_from 0 k rest) (let e : at ≡ at + 0 = omega arith in e) ∙ kept (lexed_from 0 (at + 0) rest)
@@ -97,10 +101,10 @@ a-word : (w : Word) → Lexes (spelling (token.Word w)) (word w ∷ [])
 a-word w = one (token.Word w) 0 tt
 
 space : Lexes (codes " ") []
-space = record { lexes = blank_lexes 32 refl }
+space = record { lexes = blank_lexes 32 refl; signs = refl }
 
 feed : Lexes (codes "\n") []
-feed = record { lexes = blank_lexes 10 refl }
+feed = record { lexes = blank_lexes 10 refl; signs = refl }
 
 a-name : (x : Ident) → IsToken (token.Name x.name) → Lexes x.name (name x ∷ [])
 a-name x h = one (token.Name x.name) x.at h
@@ -255,3 +259,7 @@ pub whole_text : (ss : List Sentence) → All (λ t. IsToken t.token) (tokens_of
 whole_text ss h =
     let w = lexes_whole (text_of ss) (map token_of (tokens_of ss)) (text-lexes ss (are-tokens (tokens_of ss) h)).lexes in
     (w.0, w.2, w.1)
+
+-- each `;`, `,` and `{` of the printed text is a token
+pub text-signs : (ss : List Sentence) → All (λ t. IsToken t.token) (tokens_of ss) → count_by is_sign_byte (text_of ss) ≡ count_by is_sign (tokens_of ss)
+text-signs ss h = (text-lexes ss (are-tokens (tokens_of ss) h)).signs

@@ -1,6 +1,7 @@
 pub mod Texts
 pub mod Starts
 pub mod Printable
+pub mod Signs
 pub mod Lexed
 pub mod Outlines
 pub mod Rereads

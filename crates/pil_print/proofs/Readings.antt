@@ -1,5 +1,5 @@
 -- A printed text is read as statements that are accepted and mean what was printed.
-use Rattle.std.proofs.Common.{ℕ, ◌≡◌, List, [], ◌∷◌, ◌++◌, map, cond, sum_by, Option, Some, None, refl, ap, ◌∙◌, arith}
+use Rattle.std.proofs.Common.{ℕ, ◌≡◌, ◌≤◌, ◌^◌, List, [], ◌∷◌, ◌++◌, map, cond, sum_by, Option, Some, None, refl, sym, ap, subst, ◌∙◌, arith}
 use Rattle.std.proofs.lemmas.List.{map-append}
 use Rattle.std.proofs.lemmas.List.Sums.{sum_by-cons}
 use Rattle.pil_token.specs.declared.token.Token.{Token}
@@ -24,7 +24,7 @@ use Rattle.pil_meaning.specs.Meaning.{meaning}
 use Rattle.pil_meaning.specs.Soundness.{is_sign_of, is_sign, IsShort}
 use Rattle.pil_print.specs.Statements.{sentences_of}
 use Rattle.pil_print.specs.Laws.{ReadsBack}
-use Rattle.pil_print.proofs.Lexed.{whole_text}
+use Rattle.pil_print.proofs.Lexed.{whole_text, text-signs}
 use Rattle.pil_print.proofs.Outlines.{outline-is}
 use Rattle.pil_print.proofs.Roundtrip.{keeps_meaning}
 use Rattle.pil_print.proofs.Moved.{ignores-places}
@@ -124,6 +124,7 @@ reads_back ss h =
       statements = moved.0;
       lexed = text.1;
       reads = moved.1;
+      few = subst (λ n. n ≤ 2 ^ 20) (sym (text-signs qs again.accepted.tokens)) again.accepted.short;
       short = signs-same text.0 (tokens_of qs) text.2 again.accepted.short;
       repeated = alike.1;
       unbroken = alike.2;

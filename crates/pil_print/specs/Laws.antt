@@ -1,5 +1,5 @@
--- What is true of each printed text.
-use Rattle.std.specs.Prelude.{◌≡◌, false, List, [], map, All, Ok}
+-- What is true of the tokens of each text, and of each printed text.
+use Rattle.std.specs.Prelude.{ℕ, ◌≡◌, ◌≤◌, ◌^◌, false, List, [], map, count_by, All, Ok}
 use Rattle.pil_token.specs.declared.token.Placed.{Placed}
 use Rattle.pil_token.specs.Spelled.{IsToken}
 use Rattle.pil_token.specs.Tokens.{lexed}
@@ -13,12 +13,17 @@ use Rattle.pil_names.specs.Outline.{outline_of}
 use Rattle.pil_names.specs.Wrongs.{repeated}
 use Rattle.pil_meaning.specs.Meaning.{meaning}
 use Rattle.pil_meaning.specs.Soundness.{HasNumbers, IsShort, IsUnbroken}
+use Rattle.pil_meaning.specs.Given.{is_sign_byte}
 use Rattle.pil_print.specs.Statements.{sentences_of}
 use Rattle.pil_print.specs.Printed.{text_of, printed}
 
 -- the text of statements has their tokens, which may stand at other places
 abbrev pub IsReadAsTokens : Type 0
 IsReadAsTokens = (ss : List Sentence) → All (λ t. IsToken t.token) (tokens_of ss) → (ts : List Placed) × (lexed (text_of ss) ≡ Ok ts) × (map token_of ts ≡ map token_of (tokens_of ss))
+
+-- the tokens that are read of a text are tokens that a text can have
+abbrev pub TextHasTokens : Type 0
+TextHasTokens = (text : List ℕ) (ts : List Placed) → lexed text ≡ Ok ts → All (λ t. IsToken t.token) ts
 
 -- statements that are no reason for a refusal
 pub record IsAccepted (ss : List Sentence) : Type 0 where
@@ -37,12 +42,14 @@ pub record IsReprinted (ss : List Sentence) : Type 0 where
 abbrev pub KeepsMeaning : Type 0
 KeepsMeaning = (ss : List Sentence) → IsAccepted ss → IsReprinted ss
 
--- the printed text of a meaning is read as statements within the limits, which break no rule and have this meaning
+-- the printed text of a meaning has few `;`, `,` and `{` and is read as statements within the limits, which break no
+-- rule and have this meaning
 pub record IsReadBack (ns : List Namespace) : Type 0 where
   pub tokens : List Placed
   pub statements : List Sentence
   pub lexed : lexed (printed ns) ≡ Ok tokens
   pub reads : Reads limits tokens statements
+  pub few : count_by is_sign_byte (printed ns) ≤ 2 ^ 20
   pub short : IsShort tokens
   pub repeated : repeated (outline_of statements) ≡ []
   pub unbroken : IsUnbroken (outline_of statements)

@@ -1,5 +1,11 @@
-//! What is true of every printed text.
-ghost use Rattle.pil_print.specs.Laws.{IsReadAsTokens, KeepsMeaning, ReadsBack};
+//! What is true of the tokens of every text, and of every printed text.
+ghost use Rattle.pil_print.specs.Laws.{IsReadAsTokens, KeepsMeaning, ReadsBack, TextHasTokens};
+
+/// The law of tokens: each token that is read of a text, whatever the text, is a reserved word, a mark,
+/// a name whose bytes are one, or a number below the order of the field. The call computes nothing.
+pub fn lexed_tokens()
+    ensures tokens { TextHasTokens }
+{}
 
 /// The law of printed tokens: where the names of statements are names and their numbers are below the
 /// order of the field, their text has their tokens and no others. The call computes nothing.
@@ -13,8 +19,9 @@ pub fn printed_meaning()
     ensures meaning { KeepsMeaning }
 {}
 
-/// The law of reading back: the printed text of what a text means that is accepted has tokens, which
-/// are a file within the limits that breaks no rule and means the same. The call computes nothing.
+/// The law of reading back: the printed text of what a text means that is accepted has at most 2^20
+/// `;`, `,` and `{`, and has tokens, which are a file within the limits that breaks no rule and means
+/// the same. The call computes nothing.
 pub fn printed_text()
     ensures text { ReadsBack }
 {}
