@@ -4,3 +4,4 @@ mod Spaces
 mod Whole
 mod Decided
 mod Texts
+mod Printed

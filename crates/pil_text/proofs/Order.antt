@@ -1,5 +1,5 @@
 -- From the least places of the rules to the first rule that is broken.
-use Rattle.std.proofs.Common.{ℕ, ◌≡◌, ◌<◌, ◌≤◌, List, [], Option, Some, None, Contains, arith, sym, subst, ◌∙◌}
+use Rattle.std.proofs.Common.{◌∷◌, refl, ℕ, ◌≡◌, ◌<◌, ◌≤◌, List, [], Option, Some, None, Contains, arith, sym, subst, ◌∙◌}
 use Rattle.pil_names.specs.Outline.{Outline}
 use Rattle.pil_names.specs.Least.{least, IsLeast}
 use Rattle.pil_names.specs.Wrongs.{repeated, unknown, bad_rows, mixed, wrong_widths}
@@ -100,3 +100,11 @@ right o c Mixed at w = before 9 o (omega arith) c Mixed at (omega arith) w
 right o c WrongWidth at w = before 9 o (omega arith) c WrongWidth at (omega arith) w
 right o c CyclicPol at w = before 9 o (omega arith) c CyclicPol at (omega arith) w
 right o c DoubleMark at w = before 9 o (omega arith) c DoubleMark at (omega arith) w
+
+-- a rule that is broken nowhere has no place
+pub nothing : (ns : List ℕ) → ((at : ℕ) → Contains ns at → ⊥) → ns ≡ []
+nothing [] h = refl
+nothing (n ∷ ns) h = absurd (h n (0, omega arith, refl))
+
+pub clear_of : (o : Outline) → ((k : PilErrKind) (at : ℕ) → IsWrong k o at → ⊥) → IsClear 9 o
+clear_of o h = record { repeated = λ l. nothing (repeated o) (h Repeated); unknown = λ l. nothing (unknown o) (h UnknownName); rows = λ l. nothing (bad_rows o) (h BadRow); mixed = λ l. nothing (mixed o) (h Mixed); widths = λ l. nothing (wrong_widths o) (h WrongWidth); cyclic = λ l. h CyclicPol; double = λ l. nothing (double o) (h DoubleMark) }

@@ -1,9 +1,13 @@
 //! What is true of every text.
 ghost use Rattle.std.specs.Prelude.{ℕ, List};
-ghost use Rattle.pil_text.specs.Text.{IsDecided};
+ghost use Rattle.pil_ast.specs.Term.{Namespace};
+ghost use Rattle.pil_print.specs.Printed.{printed};
+ghost use Rattle.pil_text.specs.Text.{Reads, IsShort, IsDecided};
 
-use pil_cycles::cycles_are_decided;
+use pil_cycles::{cycles_are_decided, ranked_have_no_cycle, without_cycle_are_ranked};
+use pil_meaning::{named_is_closed, tokens_give};
 use pil_names::least_is_least;
+use pil_print::{lexed_tokens, printed_text};
 use pil_syntax::files_are_decided;
 
 /// The law of one answer: each text, of whatever length, reads in one way or fails in one way, and not
@@ -14,4 +18,18 @@ pub fn one_answer()
     files_are_decided();
     least_is_least();
     cycles_are_decided();
+}
+
+/// The law of printing: what is printed of what a short text reads as is short, and reads as the same. So
+/// it has one printed text. The call computes nothing.
+pub fn printed_reads_back()
+    ensures same { (text : List ℕ) (ns : List Namespace) → IsShort text → Reads text ns → Reads (printed ns) ns }
+    ensures short { (text : List ℕ) (ns : List Namespace) → IsShort text → Reads text ns → IsShort (printed ns) }
+{
+    tokens_give();
+    named_is_closed();
+    without_cycle_are_ranked();
+    ranked_have_no_cycle();
+    lexed_tokens();
+    printed_text();
 }

@@ -11,5 +11,6 @@ mod rules;
 mod tests;
 
 pub use error::{PilErr, PilErrKind};
-pub use laws::one_answer;
+pub use laws::{one_answer, printed_reads_back};
+pub use pil_print::print;
 pub use reading::read;
