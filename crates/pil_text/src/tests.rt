@@ -1,12 +1,20 @@
 //! Texts that are read, and texts that are refused: by which rule, and where.
+
+ghost use Rattle.std.specs.Prelude.{IfOk};
+ghost use Rattle.pil_ast.specs.Tree.{namespaces};
+ghost use Rattle.pil_ast.specs.Sound.{IsSound};
+
 use crate::error::{PilErr, PilErrKind};
 use crate::reading::read;
 use pil_ast::{Expr, Item, Pil};
+use pil_print::print;
 use std::alloc::{AllocError, Global};
 use std::test::Fail;
 
 /// The tree of a text of at most 2^20 bytes.
-fn read_short(alloc: Global, text: &[u8]) -> Result<Pil, PilErr> {
+fn read_short(alloc: Global, text: &[u8]) -> Result<Pil, PilErr>
+    ensures { IfOk result (λ pil. IsSound (namespaces pil)) }
+{
     if text.len() > 1 << 20 {
         return Err(PilErr {
             kind: PilErrKind::NoMemory,
@@ -479,5 +487,41 @@ fn refuses_wrong_lengths_of_arrays(rt: HostRuntime) -> Result<(), Fail> {
         refusal(rt.alloc(), b"namespace A(18446744069414584320);"),
         because(PilErrKind::BadRow, 12)
     );
+    Ok(())
+}
+
+/// What is printed of a text.
+fn reprinted(alloc: Global, text: &[u8]) -> Result<Vec<u8>, PilErr> {
+    let pil = read_short(alloc, text)?;
+    Ok(print(alloc, &pil)?)
+}
+
+#[test]
+fn prints_a_text(rt: HostRuntime) -> Result<(), Fail> {
+    let small = b"namespace A(2); pol commit x; x' = (x+1);";
+    let printed = reprinted(rt.alloc(), small)?;
+    assert_eq!(rt;
+        printed.as_slice(),
+        b"namespace A(2);\npol commit x;\nA.x' = A.x + 1;\n".as_slice()
+    );
+    Ok(())
+}
+
+#[test]
+fn prints_each_construct(rt: HostRuntime) -> Result<(), Fail> {
+    let text =
+        b"constant %n = 0x10; namespace A(%n); pol constant c[2], d; pol commit x, y[3]; /* two */
+        pol s = (x - (y[0] - 1)) * (c[1]); public t = y[2](1); -(x*d) - -s' = (s * (x * 2)) + :t;
+        namespace B(4); pol commit x; (A.x - 1) {A.x, A.y[2]} in {x, (x)}; A.d{A.x} is B.x {B.x} + {%n};";
+    let printed = reprinted(rt.alloc(), text)?;
+    let again = reprinted(rt.alloc(), printed.as_slice())?;
+    assert_eq!(rt;
+        printed.as_slice(),
+        b"namespace A(16);\npol constant c[2];\npol constant d;\npol commit x;\npol commit y[3];\n\
+pol s = (A.x - (A.y[0] - 1)) * A.c[1];\npublic t = A.y[2](1);\n-(A.x * A.d) - -A.s' = A.s * (A.x * 2) + :t;\n\
+namespace B(4);\npol commit x;\n(A.x - 1) {A.x, A.y[2]} in {B.x, B.x};\nA.d {A.x} is B.x {B.x} + {16};\n"
+            .as_slice()
+    );
+    assert_eq!(rt; again.as_slice(), printed.as_slice());
     Ok(())
 }
