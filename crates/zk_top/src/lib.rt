@@ -10,8 +10,6 @@ mod laws;
 mod report;
 mod running;
 #[cfg(test)]
-mod small_texts;
-#[cfg(test)]
 mod tests;
 
 pub use checking::pil_call;
