@@ -1,21 +1,10 @@
 // The check of bench/rows.py in plain Rust: `plain_rows TABLES`. Twenty columns x0 .. x9, y0 .. y9 of one
 // instance; for each k `xk' = xk + yk` and `(xk + yk) * x(k+1) = xk' * x(k+1)` modulo p at every row.
-const P: u64 = 0xffff_ffff_0000_0001;
-const EPSILON: u64 = 0xffff_ffff;
+include!("goldilocks.rs");
 
 #[inline(always)]
 fn mul(a: u64, b: u64) -> u64 {
-    let x = a as u128 * b as u128;
-    let (low, high) = (x as u64, (x >> 64) as u64);
-    let (mut sum, borrow) = low.overflowing_sub(high >> 32);
-    if borrow {
-        sum = sum.wrapping_sub(EPSILON);
-    }
-    let (mut sum, carry) = sum.overflowing_add((high & EPSILON) * EPSILON);
-    if carry {
-        sum = sum.wrapping_add(EPSILON);
-    }
-    if sum >= P { sum - P } else { sum }
+    reduce(a as u128 * b as u128)
 }
 
 #[inline(always)]
