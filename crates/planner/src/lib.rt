@@ -10,7 +10,7 @@ mod laws;
 mod plan;
 mod track;
 
-pub use counting::count;
+pub use counting::{count, has_row};
 pub use counts::Counts;
 pub use job::{Job, Part};
 pub use laws::{each_job_once, each_whole_job_once, rows_of_a_job};
