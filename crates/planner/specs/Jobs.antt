@@ -39,9 +39,16 @@ whole air counts = total air counts / rows_per air
 abbrev pub jobs : Air → List Counts → ℕ → ℕ → List Job
 jobs air counts first n = map (job_of air counts) (range_with_len first n)
 
--- all jobs of an air, the last of which may have fewer rows
+-- how many instances so many rows are, the last of which may have fewer rows
+abbrev pub instances : Air → ℕ → ℕ
+instances air rows = (rows + (rows_per air - 1)) / rows_per air
+
+-- all jobs of an air, and how many they are
+abbrev pub job_count : Air → List Counts → ℕ
+job_count air counts = instances air (total air counts)
+
 abbrev pub all_jobs : Air → List Counts → List Job
-all_jobs air counts = jobs air counts 0 ((total air counts + (rows_per air - 1)) / rows_per air)
+all_jobs air counts = jobs air counts 0 (job_count air counts)
 
 -- the airs that are cut into jobs
 abbrev pub airs : List Air
