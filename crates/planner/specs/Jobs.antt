@@ -1,5 +1,5 @@
 -- The jobs of a list of counts, the k-th of which are those of chunk k.
-use Rattle.std.specs.Prelude.{ℕ, ◌+◌, ◌-◌, ◌*◌, ◌/◌, ◌%◌, ◌==◌, min, max, nat_lt, List, [], ◌∷◌, ◌++◌, length, if◌then◌else◌, sum_by, map, take, drop, slice_index_or, filter}
+use Rattle.std.specs.Prelude.{◌≡◌, ℕ, ◌+◌, ◌-◌, ◌*◌, ◌/◌, ◌%◌, ◌==◌, ◌<◌, min, max, nat_lt, List, [], ◌∷◌, ◌++◌, length, if◌then◌else◌, sum_by, map, take, drop, slice_index_or, filter}
 use Rattle.std.specs.List.{flat_map, range_with_len}
 use Rattle.zk_layout.specs.Air.{air_number, rows_per}
 use Rattle.zk_layout.specs.declared.air.Air.{Air}
@@ -69,6 +69,20 @@ rest air counts = if total air counts % rows_per air == 0 then [] else job_of ai
 -- the jobs that aren't whole and aren't empty
 unfoldable pub finished : List Counts → List Job
 finished counts = flat_map (λ air. rest air counts) airs
+
+-- a part of these chunks takes something of one of them
+pub record IsPartIn (counts : List Counts) (p : Part) : Type 0 where
+  pub there : p.chunk < length counts
+  pub some : 0 < p.take
+
+-- a job of these chunks, and one that they make whole
+pub record IsJobIn (counts : List Counts) (j : Job) : Type 0 where
+  pub named : j ≡ job_of j.air counts j.instance
+  pub some : j.instance < job_count j.air counts
+
+pub record IsWholeIn (counts : List Counts) (j : Job) : Type 0 where
+  pub named : j ≡ job_of j.air counts j.instance
+  pub whole : j.instance < whole j.air counts
 
 -- what adding these counts in turn hands out, after the counts before them
 abbrev pub handed : List Counts → List Counts → List Job
