@@ -7,7 +7,7 @@ ghost use Rattle.run_rows.specs.Runs.{values_of, IsJobOf};
 ghost use Rattle.run_rows.specs.Gathered.{steps_of, named_in, all_named};
 
 use min_trace::{Chunk, Replay, StepRecord};
-use planner::{Job, Part, has_row};
+use planner::{Job, Part, has_row, rows_are_counted, rows_of_a_job};
 use rv_model::Image;
 use std::alloc::{AllocError, Global};
 use std::sync::Arc;
@@ -105,6 +105,8 @@ pub fn gather<T: FromStep + Drop>(
     requires { (n : ℕ) × IsJobOf image.now n job.now (values_of chunks.now) }
     ensures { IfOk result (λ v. (n : ℕ) → IsJobOf image.now n job.now (values_of chunks.now) → v.items ≡ map T.taken (steps_of job.now.air image.now n job.now.instance)) }
 {
+    rows_are_counted();
+    rows_of_a_job::<StepRecord>();
     let mut found = Vec::with_capacity(alloc, job.air.rows() as usize)?;
     take_parts(image, chunks, job.air, job.parts.as_slice(), &mut found)?;
     Ok(found)
