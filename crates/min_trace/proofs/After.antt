@@ -43,10 +43,10 @@ after_of j (Auipc rd imm) s r range = same_state _ _ _ _ _ _ refl (written_again
 after_of j (Jal rd imm) s r range = same_state _ _ _ _ _ _ refl (written_again s.x rd _ r range.0) refl
 after_of j (Jalr rd rs1 imm) s r range = same_state _ _ _ _ _ _ refl (written_again s.x rd _ r range.0) refl
 after_of j (Branch cond rs1 rs2 imm) s r range = branched s _ (is_taken cond (reg s rs1) (reg s rs2))
-after_of j (Load kind rd rs1 imm) s r range = same_state _ _ _ _ _ _ refl (written_again s.x rd _ r range.0) refl
+after_of j (Load kind rd rs1 imm) s r range = same_state _ _ _ _ _ _ refl (written_again s.x rd _ r range.1) refl
 after_of j (Store kind rs1 rs2 imm) s r range = refl
-after_of j (OpImm op rd rs1 imm) s r range = same_state _ _ _ _ _ _ refl (written_again s.x rd _ r range.0) refl
-after_of j (Op op rd rs1 rs2) s r range = same_state _ _ _ _ _ _ refl (written_again s.x rd _ r range.0) refl
+after_of j (OpImm op rd rs1 imm uw) s r range = same_state _ _ _ _ _ _ refl (written_again s.x rd _ r range.1) refl
+after_of j (Op op rd rs1 rs2 uw) s r range = same_state _ _ _ _ _ _ refl (written_again s.x rd _ r range.1) refl
 after_of j Fence s r range = refl
 after_of j Ecall s r range = refl
 after_of j Ebreak s r range = refl
@@ -88,17 +88,17 @@ here_at image j h = found_here (fetch image (state_at image j).pc) (state_at ima
 rs1_below : (i : Instr) → InRange i → rs1_of i < 32
 rs1_below (Jalr rd rs1 imm) r = r.1
 rs1_below (Branch cond rs1 rs2 imm) r = r.0
-rs1_below (Load kind rd rs1 imm) r = r.1
-rs1_below (Store kind rs1 rs2 imm) r = r.0
-rs1_below (OpImm op rd rs1 imm) r = r.1
-rs1_below (Op op rd rs1 rs2) r = r.1
+rs1_below (Load kind rd rs1 imm) r = r.2
+rs1_below (Store kind rs1 rs2 imm) r = r.1
+rs1_below (OpImm op rd rs1 imm uw) r = r.2
+rs1_below (Op op rd rs1 rs2 uw) r = r.2
 rs1_below Ecall r = omega arith
 rs1_below _ r = omega arith
 
 rs2_below : (i : Instr) → InRange i → rs2_of i < 32
 rs2_below (Branch cond rs1 rs2 imm) r = r.1
-rs2_below (Store kind rs1 rs2 imm) r = r.1
-rs2_below (Op op rd rs1 rs2) r = r.2
+rs2_below (Store kind rs1 rs2 imm) r = r.2
+rs2_below (Op op rd rs1 rs2 uw) r = r.3
 rs2_below _ r = omega arith
 
 rd_below : (i : Instr) → InRange i → rd_of i < 32
@@ -106,9 +106,9 @@ rd_below (Lui rd imm) r = r.0
 rd_below (Auipc rd imm) r = r.0
 rd_below (Jal rd imm) r = r.0
 rd_below (Jalr rd rs1 imm) r = r.0
-rd_below (Load kind rd rs1 imm) r = r.0
-rd_below (OpImm op rd rs1 imm) r = r.0
-rd_below (Op op rd rs1 rs2) r = r.0
+rd_below (Load kind rd rs1 imm) r = r.1
+rd_below (OpImm op rd rs1 imm uw) r = r.1
+rd_below (Op op rd rs1 rs2 uw) r = r.1
 rd_below _ r = omega arith
 
 pub rs1_at : Found → Ranged → (image : Img) (j : ℕ) → (record_at image j).rs1 < 32
