@@ -7,10 +7,12 @@ mod laws;
 mod operands;
 mod record;
 mod replay;
+mod run_laws;
 mod walk;
 
 pub use chunk::{Chunk, MOST_CHUNKS, STEPS_PER_CHUNK};
 pub use laws::record_law;
-pub use operands::{constant_of, op_of, rd_of, rs1_of, rs2_of};
+pub use operands::{constant_of, op_of, rd_of, rs1_of, rs2_of, uw_of};
 pub use record::{MemAct, StepRecord};
 pub use replay::Replay;
+pub use run_laws::{chunk_law, execution_law, instruction_law, state_law};
