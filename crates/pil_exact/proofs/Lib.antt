@@ -4,3 +4,4 @@ pub mod Row
 pub mod Flags
 pub mod Small
 pub mod Follows
+pub mod Example

@@ -1,12 +1,10 @@
 -- A row of which something is known: its lines as equations in whole numbers, and back.
-use Rattle.std.proofs.Common.{ℕ, zero, suc, ◌+◌, ◌<◌, ◌≤◌, ◌≡◌, ◌↔◌, ◌∙◌, inl, inr, Bool, true, false, eqb, ltb, ◌&&◌, ◌||◌, length, List, [], ◌∷◌, ◌++◌, Option, Some, None, refl, sym, subst, lit<, arith}
+use Rattle.std.proofs.Common.{ℕ, zero, suc, ◌+◌, ◌<◌, ◌≤◌, ◌≡◌, ◌↔◌, inl, inr, Bool, true, false, eqb, ltb, ◌&&◌, ◌||◌, length, List, [], ◌∷◌, ◌++◌, Option, Some, None, refl, sym, subst, lit<, arith}
 use Rattle.std.proofs.lemmas.Bool.{ltb-true, eqb-true, and_parts, or_cases, false≢true}
-use Rattle.std.specs.Prelude.{cond, nat_lt, slice_get}
 use Rattle.gold.specs.Field.{p}
-use Rattle.pil_ast.specs.declared.tree.Place.{Place}
-use Rattle.pil_ast.specs.Term.{Term, num, col, mid, public, opp, ◌⊕◌, ◌⊖◌, ◌⊗◌, Line, identity, lookup, Tuples, Namespace, item_at, inter_at, space_at, publics}
+use Rattle.pil_ast.specs.Term.{Term, num, col, mid, public, opp, ◌⊕◌, ◌⊖◌, ◌⊗◌, Line, identity, lookup, Tuples, Namespace, item_at, inter_at, space_at}
 use Rattle.pil_ast.specs.Columns.{Columns}
-use Rattle.pil_ast.specs.Value.{Cells, value, value_at, value_by, later, value_in, around, ahead, row_after, public_value, value_of_place}
+use Rattle.pil_ast.specs.Value.{Cells, value, value_at, value_by, later, around, ahead, row_after}
 use Rattle.pil_ast.specs.Holds.{sent, HoldsAt}
 use Rattle.pil_laws.specs.Lines.{is_over, are_over}
 use Rattle.pil_laws.proofs.Values.{public_small}
@@ -286,6 +284,11 @@ abbrev pub all_settled : List Line → Cells → ℕ → (ℕ → List (ℕ × F
 all_settled items x home facts [] = true
 all_settled items x home facts (l ∷ ls) = settled items x home facts l && all_settled items x home facts ls
 
+-- what a line says, as an equation
+pub equation : (items : List Line) (x : Cells) (s : Tuples → List (List ℕ)) (l : Line) → Says items x s l → value items x (left_term l) ≡ value items x (right_term l)
+equation items x s (identity m a b) h = h
+equation items x s _ h = refl
+
 module _ {items : List Line} {x : Cells} {home : ℕ} {facts : ℕ → List (ℕ × Fact)} (row : Row items x home facts) where
   exact_line : (l : Line) → settled items x home facts l ≡ true → value items x (left_term l) ≡ value items x (right_term l) → HoldsExactly items x l
   exact_line l q h = elim (or_cases _ _ q) [ inl z ↦ exactly row l (plainly_is (left (read items x home facts (left_term l)) (read items x home facts (right_term l))) (right (read items x home facts (left_term l)) (read items x home facts (right_term l))) z) | inr z ↦ exactly row l (line row l h z) ]
@@ -296,10 +299,9 @@ module _ {items : List Line} {x : Cells} {home : ℕ} {facts : ℕ → List (ℕ
   exact_lines (l ∷ ls) q h zero = exact_line l (and_parts _ _ q).0 (h 0)
   exact_lines (l ∷ ls) q h (suc k) = exact_lines ls (and_parts _ _ q).1 (λ k. h (suc k)) k
 
--- what a line says, as an equation
-pub equation : (items : List Line) (x : Cells) (s : Tuples → List (List ℕ)) (l : Line) → Says items x s l → value items x (left_term l) ≡ value items x (right_term l)
-equation items x s (identity m a b) h = h
-equation items x s _ h = refl
+  -- The same from what the lines say of the row, where `sent` gives what a list sends.
+  pub exact_said : (sent : Tuples → List (List ℕ)) (ls : List Line) → all_settled items x home facts ls ≡ true → ((k : ℕ) → Says items x sent (item_at ls k)) → (k : ℕ) → HoldsExactly items x (item_at ls k)
+  exact_said sent ls q h = exact_lines ls q (λ k. equation items x sent (item_at ls k) (h k))
 
 module _ (ns : List Namespace) (c : Columns) (home i r : ℕ) (n : Namespace) (e : space_at ns home ≡ n) where
   in_space : (s : ℕ) (P : Cells → List Line → Type 0) → s ≡ home → P (around ns c s i r) (space_at ns s).items ↔ P (around ns c home i r) n.items
