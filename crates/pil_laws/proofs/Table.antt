@@ -61,20 +61,29 @@ module _ {R : Type 0} (ns : List Namespace) (c : Columns) (s first width : ℕ) 
   sent-held o es =
       ap (λ b. cond b (map (value_in ns c s i r) es ∷ []) []) (selected_held o) ∙ ap (λ vs. cond (chosen (space_at ns s).items cells_at o) (vs ∷ []) []) (all_held es)
 
+-- rows that send what f gives of a list's elements, one instance after the other, send it in order
+pub sent-each : {R : Type 0} (ns : List Namespace) (c : Columns) (f : R → List (List ℕ)) (rows : List R) (a : Tuples) → length rows ≤ c.instances a.space * c.rows a.space
+    → ((i r : ℕ) → i < c.instances a.space → r < c.rows a.space → row_sent ns c a i r ≡ of_row f (slice_get rows (i * c.rows a.space + r))) → sent ns c a ≡ flat_map f rows
+unfolding sent
+sent-each ns c f rows a room each = by_instances (row_sent ns c a) f rows (c.instances a.space) (c.rows a.space) room each
+
+-- the same where that is one tuple each
+pub sent-tuples : {R : Type 0} (ns : List Namespace) (c : Columns) (t : R → List ℕ) (rows : List R) (a : Tuples) → length rows ≤ c.instances a.space * c.rows a.space
+    → ((i r : ℕ) → i < c.instances a.space → r < c.rows a.space → row_sent ns c a i r ≡ of_row (λ x. t x ∷ []) (slice_get rows (i * c.rows a.space + r))) → sent ns c a ≡ map t rows
+sent-tuples ns c t rows a room each = sent-each ns c (λ x. t x ∷ []) rows a room each ∙ flat_map_single t rows
+
 -- what a table of rows sends is what each row gives, in order
 pub sent-rows : {R : Type 0} (ns : List Namespace) (c : Columns) (first width : ℕ) (value_of : R → ℕ → ℕ) (f : R → List (List ℕ)) (rows : List R) (a : Tuples)
     → AreHeld c a.space first width value_of rows → Gives ns c first width value_of f rows a → sent ns c a ≡ flat_map f rows
-unfolding sent
 sent-rows ns c first width value_of f rows a are gives =
-    by_instances (row_sent ns c a) f rows (c.instances a.space) (c.rows a.space) are.room
+    sent-each ns c f rows a are.room
     (λ i r l w. sent-held ns c a.space first width value_of rows are i r l w a.sel a.terms ∙ gives i r (slice_get rows (i * c.rows a.space + r)) (λ t. slice_get rows (i * c.rows a.space + ahead (c.rows a.space) r (suc t))) l w refl)
 
 -- the same from what an air's laws say at a row: of the rows that are held, and of the rows behind them
 pub sent-laws : {R : Type 0} (ns : List Namespace) (c : Columns) (f : R → List (List ℕ)) (rows : List R) (a : Tuples) → length rows ≤ c.instances a.space * c.rows a.space
     → ((i r : ℕ) (x : R) → i < c.instances a.space → r < c.rows a.space → slice_get rows (i * c.rows a.space + r) ≡ Some x → row_sent ns c a i r ≡ f x)
     → ((i r : ℕ) → i < c.instances a.space → r < c.rows a.space → slice_get rows (i * c.rows a.space + r) ≡ None → row_sent ns c a i r ≡ []) → sent ns c a ≡ flat_map f rows
-unfolding sent
-sent-laws {R} ns c f rows a room some none = by_instances (row_sent ns c a) f rows (c.instances a.space) (c.rows a.space) room (λ i r l w. one_row i r l w (slice_get rows (i * c.rows a.space + r)) refl)
+sent-laws {R} ns c f rows a room some none = sent-each ns c f rows a room (λ i r l w. one_row i r l w (slice_get rows (i * c.rows a.space + r)) refl)
   where
     one_row : (i r : ℕ) → i < c.instances a.space → r < c.rows a.space → (o : Option R) → slice_get rows (i * c.rows a.space + r) ≡ o → row_sent ns c a i r ≡ of_row f o
     one_row i r l w None e = none i r l w e
