@@ -12,7 +12,7 @@ use Rattle.rv_model.specs.Image.{Img, fetch}
 use Rattle.rv_model.specs.Op.{bits_of}
 use Rattle.rv_model.specs.State.{wrapped}
 use Rattle.min_trace.specs.Operands.{compared_by}
-use Rattle.min_trace.specs.Record.{instr_of}
+use Rattle.rv_model.specs.Code.{instr_of}
 use Rattle.step_rows.specs.Words.{low, high, one_if}
 
 -- the columns of a row but SEL
