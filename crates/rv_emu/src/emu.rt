@@ -8,7 +8,7 @@ use crate::code::Code;
 use crate::stepping::go_on;
 use crate::window::public;
 use mem_pages::Memory;
-use min_trace::Chunk;
+use min_trace::{Chunk, STEPS_PER_CHUNK, execution_law};
 use rv_model::{Cpu, Image, Public, RunEnd, StepAnswer};
 use std::alloc::{AllocError, Global};
 use std::marker::Model;
@@ -17,7 +17,7 @@ use std::sync::Arc;
 /// A chunk of a run.
 #[derive(Debug, Drop)]
 pub enum Step {
-    /// Its 1,024 steps all lead on.
+    /// Its steps all lead on.
     Chunk(Chunk),
     /// Its last step halts, and this is what the run publishes.
     Last(Chunk, Public),
@@ -74,7 +74,7 @@ impl Emu {
     {
         let code = Code::new(alloc, &image)?;
         let memory = Memory::new(alloc, &image)?;
-        let olds = Vec::with_capacity(alloc, 1024)?;
+        let olds = Vec::with_capacity(alloc, STEPS_PER_CHUNK as usize)?;
         let cpu = Cpu {
             pc: image.entry,
             x: [0; 32],
@@ -103,7 +103,8 @@ impl Emu {
         // Where the run ends, this is its end within the limit.
         ensures ends { EndsBy result self.old.limit (end_within self.old.image self.old.limit) }
     {
-        let most = (self.limit - 1024 * self.number).min(1024);
+        execution_law();
+        let most = (self.limit - STEPS_PER_CHUNK * self.number).min(STEPS_PER_CHUNK);
         let Ok(answer) = go_on(
             &self.code,
             &mut self.cpu,
@@ -124,10 +125,15 @@ impl Emu {
                 };
                 Ok(Step::Last(chunk, public(&self.cpu, &self.memory)))
             }
-            StepAnswer::Next if most < 1024 => Err(RunEnd::StepLimit(self.limit)),
+            StepAnswer::Next if most < STEPS_PER_CHUNK => Err(RunEnd::StepLimit(self.limit)),
             StepAnswer::Next => {
-                let Ok(chunk) = chunk_of(self.alloc, self.number, &self.first, 1024, &self.olds)
-                else {
+                let Ok(chunk) = chunk_of(
+                    self.alloc,
+                    self.number,
+                    &self.first,
+                    STEPS_PER_CHUNK,
+                    &self.olds,
+                ) else {
                     return Err(RunEnd::NoMemory);
                 };
                 self.number += 1;

@@ -7,6 +7,7 @@ ghost use Rattle.rv_emu.specs.Emulator.{state_of, old_by, old_here, Leads, IsTou
 
 use crate::code::Code;
 use mem_pages::Memory;
+use min_trace::execution_law;
 use rv_model::{Cpu, RunFault, StepAnswer, is_store};
 use rv_word::{Instr, decode};
 use std::alloc::AllocError;
@@ -52,6 +53,7 @@ fn execute(
     ensures ok { IfOk result (λ answer. Leads (executed instr.now (state_of cpu.old memory.old)) (old_by instr.now (state_of cpu.old memory.old)) answer (state_of cpu.old memory.old) (state_of cpu.new memory.new) olds.old.items olds.new.items) }
     ensures err { OnErr result ((state_of cpu.new memory.new ≡ state_of cpu.old memory.old) × (olds.new.items ≡ olds.old.items)) }
 {
+    execution_law();
     let old = touch(instr, cpu, memory, olds)?;
     Ok(cpu.apply(instr, old))
 }
