@@ -104,16 +104,12 @@ fn image_of(
 {
     let segments = segments_of(alloc, file, headers)?;
     let input = Vec::from_slice(alloc, input)?;
-    Ok(Image {
-        entry: u64_at(file, 24),
-        segments,
-        input,
-    })
+    Image::new(alloc, u64_at(file, 24), segments, input)
 }
 
 /// Loads a static ELF64 file for RISC-V (System V gABI, "ELF Header" and "Program Header"), with an
-/// input of at most 2^24 - 8 bytes. It takes memory for the file's bytes alone, whatever sizes the
-/// file promises.
+/// input of at most 2^24 - 8 bytes, and decodes its instructions. It takes memory for the file's bytes
+/// alone, whatever sizes the file promises.
 ///
 /// Each file has one image for an input, or one refusal, as `one_answer` says. `NoMemory` may come in
 /// place of either; no clause says when, and the tests show that it stays away with ample memory.

@@ -5,6 +5,7 @@
 mod access;
 mod alignment;
 mod answer;
+mod code;
 mod cpu;
 mod image;
 mod loaded;
