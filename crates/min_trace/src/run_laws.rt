@@ -3,11 +3,12 @@ ghost use Rattle.std.specs.Prelude.{◌≡◌, ◌+◌, ◌<◌, ◌≤◌, ℕ,
 ghost use Rattle.rv_word.specs.declared.instr.Instr.{Instr};
 ghost use Rattle.rv_word.specs.Ranges.{InRange};
 ghost use Rattle.rv_model.specs.Image.{Img, fetch};
+ghost use Rattle.rv_model.specs.Code.{instr_of};
 ghost use Rattle.rv_model.specs.State.{State, Halt, executed};
 ghost use Rattle.rv_model.specs.Cpu.{access, IsGood};
 ghost use Rattle.rv_model.specs.Run.{state_at, step_at, IsNext};
 ghost use Rattle.min_trace.specs.Chunk.{Piece, IsStep, IsChunk};
-ghost use Rattle.min_trace.specs.Record.{instr_of, instr_at, old_of, old_at, act, record_at, records_between};
+ghost use Rattle.min_trace.specs.Record.{instr_at, old_of, old_at, act, record_at, records_between};
 ghost use Rattle.min_trace.specs.After.{after};
 
 use rv_word::decoding_law;

@@ -8,6 +8,7 @@ use Rattle.rv_word.specs.declared.instr.Instr.{Instr}
 use Rattle.rv_word.specs.declared.instr.Instr.TheVariants.{Lui, Auipc, Jal, Jalr, Branch, Load, Store, OpImm, Op, Fence, Ecall, Ebreak}
 use Rattle.rv_word.specs.Is.{decoded}
 use Rattle.rv_model.specs.Image.{Img, fetch}
+use Rattle.rv_model.specs.Code.{instr_of}
 use Rattle.rv_model.specs.Align.{width, aligned}
 use Rattle.rv_model.specs.State.{State, Answer, Next, Halt, Fault, executed, executed_fetch, step, load, store, at_address, with_word}
 use Rattle.rv_model.specs.Cpu.{with_memory, access, is_store, IsGood, Touches, told, memory_after, KeepsUnlessNext}
@@ -18,7 +19,7 @@ use Rattle.rv_model.specs.declared.answer.RunFault.TheVariants.{BadPc, Illegal}
 use Rattle.rv_model.specs.declared.answer.StepAnswer.{StepAnswer}
 use Rattle.rv_model.specs.declared.answer.StepAnswer.TheVariants as answers
 use Rattle.rv_model.specs.declared.cpu.Cpu.{Cpu}
-use Rattle.min_trace.specs.Record.{instr_of, instr_at, act, old_of, old_at}
+use Rattle.min_trace.specs.Record.{instr_at, act, old_of, old_at}
 use Rattle.min_trace.specs.Chunk.{IsStep}
 use Rattle.rv_emu.specs.Emulator.{old_by, old_here, Leads, IsTouch, IsTouched}
 

@@ -1,4 +1,3 @@
-pub mod Decoded
 pub mod Executes
 pub mod Onward
 pub mod Answers

@@ -8,7 +8,7 @@ use Rattle.rv_model.specs.declared.answer.RunFault.{RunFault}
 use Rattle.rv_model.specs.declared.answer.RunEnd.{RunEnd}
 use Rattle.rv_model.specs.declared.answer.RunEnd.TheVariants as ends
 use Rattle.min_trace.specs.Record.{cpu_at, olds_between}
-use Rattle.min_trace.specs.Chunk.{Piece, IsChunk}
+use Rattle.min_trace.specs.Chunk.{Piece, IsChunk, first_step}
 use Rattle.rv_emu.proofs.Answers.{piece}
 use Rattle.rv_emu.specs.declared.emu.Step.{Step}
 use Rattle.rv_emu.specs.declared.emu.Step.TheVariants as steps
@@ -40,10 +40,10 @@ leads_no_fault : (image : Img) (n j : ℕ) (fault : RunFault) → MeetsLimit ima
 leads_no_fault image n j fault meets below is = subst IsNext is (meets j below)
 
 whole_no_last : (p : Place) (c d : Piece) (public : Public) → IsWhole p c → IsLast p d public → ⊥
-whole_no_last p c d public w l = leads_no_halt p.image (1024 * p.number + 1024) (1024 * p.number + d.steps - 1) w.on (omega (arith, l.chunk.some, l.chunk.most)) l.halts.halt
+whole_no_last p c d public w l = leads_no_halt p.image (first_step (p.number + 1)) (1024 * p.number + d.steps - 1) w.on (omega (arith, l.chunk.some, l.chunk.most)) l.halts.halt
 
 whole_no_fault : (p : Place) (c : Piece) (fault : RunFault) → IsWhole p c → FaultsIn p fault → ⊥
-whole_no_fault p c fault w f = leads_no_fault p.image (1024 * p.number + 1024) f.step fault w.on f.high f.faults.is
+whole_no_fault p c fault w f = leads_no_fault p.image (first_step (p.number + 1)) f.step fault w.on f.high f.faults.is
 
 whole_no_limit : (p : Place) (c : Piece) → IsWhole p c → IsUsedUp p → ⊥
 whole_no_limit p c w u = absurd (omega (arith, w.within, u.high))

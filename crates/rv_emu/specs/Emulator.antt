@@ -3,6 +3,7 @@ use Rattle.std.specs.Prelude.{◌≡◌, ◌⊎◌, ℕ, ◌+◌, ◌*◌, ◌/�
 use Rattle.rv_word.specs.declared.instr.Instr.{Instr}
 use Rattle.rv_word.specs.declared.instr.Instr.TheVariants.{Fence}
 use Rattle.rv_model.specs.Image.{Img, fetch}
+use Rattle.rv_model.specs.Code.{instr_of}
 use Rattle.rv_model.specs.Align.{aligned}
 use Rattle.rv_model.specs.State.{State, Answer, Next, Halt, Fault, with_word}
 use Rattle.rv_model.specs.Cpu.{with_memory, access, is_store, IsGood}
@@ -14,7 +15,7 @@ use Rattle.rv_model.specs.declared.cpu.Cpu.{Cpu}
 use Rattle.mem_pages.specs.Memory.{Paged, word_of}
 use Rattle.min_trace.specs.declared.chunk.TheConstants.{STEPS_PER_CHUNK}
 use Rattle.min_trace.specs.Chunk.{first_step}
-use Rattle.min_trace.specs.Record.{instr_of, act, old_of, olds_between, cpu_at}
+use Rattle.min_trace.specs.Record.{act, old_of, olds_between, cpu_at}
 
 abbrev pub state_of : Cpu → Paged → State
 state_of cpu memory = with_memory cpu (word_of memory)

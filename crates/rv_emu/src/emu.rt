@@ -4,7 +4,6 @@ ghost use Rattle.std.specs.Arc.{arc_value};
 ghost use Rattle.rv_model.specs.Run.{end_within};
 ghost use Rattle.rv_emu.specs.Answered.{Place, Answered, EndsBy};
 
-use crate::code::Code;
 use crate::stepping::go_on;
 use crate::window::public;
 use mem_pages::Memory;
@@ -28,7 +27,7 @@ pub enum Step {
 pub struct Emu {
     alloc: Global,
     limit: u32,
-    code: Code,
+    image: Arc<Image>,
     // The chunk's number, pc and registers before it, and how many of its steps were done.
     number: u32,
     first: Cpu,
@@ -40,14 +39,15 @@ pub struct Emu {
 }
 
 impl Model for Emu {
+    ghost use Rattle.std.specs.Arc.{arc_value};
     ghost use Rattle.rv_emu.specs.Emulator.{IsEmu, state_of};
     ghost use Rattle.rv_emu.specs.Answered.{Place};
 
     ghost Value = { Place };
 
-    ghost view = { λ e. record { image = e.code; limit = e.limit; number = e.number } };
+    ghost view = { λ e. record { image = arc_value e.image; limit = e.limit; number = e.number } };
 
-    ghost invariant = { λ e. IsEmu e.code e.limit e.number e.steps e.first (state_of e.cpu e.memory) e.olds.items };
+    ghost invariant = { λ e. IsEmu (arc_value e.image) e.limit e.number e.steps e.first (state_of e.cpu e.memory) e.olds.items };
 }
 
 fn chunk_of(
@@ -72,7 +72,6 @@ impl Emu {
     pub fn new(alloc: Global, image: Arc<Image>, limit: u32) -> Result<Emu, AllocError>
         ensures { IfOk result (λ emu. emu ≡ record { image = arc_value image; limit = limit; number = 0 }) }
     {
-        let code = Code::new(alloc, &image)?;
         let memory = Memory::new(alloc, &image)?;
         let olds = Vec::with_capacity(alloc, STEPS_PER_CHUNK as usize)?;
         let cpu = Cpu {
@@ -82,7 +81,7 @@ impl Emu {
         Ok(Emu {
             alloc,
             limit,
-            code,
+            image,
             number: 0,
             first: cpu,
             steps: 0,
@@ -106,7 +105,7 @@ impl Emu {
         execution_law();
         let most = (self.limit - STEPS_PER_CHUNK * self.number).min(STEPS_PER_CHUNK);
         let Ok(answer) = go_on(
-            &self.code,
+            &self.image,
             &mut self.cpu,
             &mut self.memory,
             &mut self.olds,

@@ -1,4 +1,5 @@
 use Rattle.std.proofs.Common.{◌+◌, Ok, Err, ap, ◌∙◌}
+use Rattle.std.specs.Arc.{arc_value}
 use Rattle.rv_model.specs.declared.answer.RunEnd.TheVariants as ends
 use Rattle.rv_emu.specs.declared.emu.Step.TheVariants as steps
 use Rattle.rv_emu.specs.Emulator.{state_of}
@@ -10,7 +11,7 @@ use Rattle.rv_emu.proofs.emu.Emu.next_chunk.Goals as goal
 pub returns-in-Fault-clause-answered : goal.returns-in-Fault-clause-answered
 returns-in-Fault-clause-answered c =
     let e = c.self.inside in
-    let found : Found c.args.self.now e.code e.limit e.number e.steps c.go_on.new.steps c.min-most.result e.first (state_of e.cpu e.memory) (state_of c.go_on.new.cpu c.go_on.new.memory) e.olds.items c.go_on.new.olds.items =
+    let found : Found c.args.self.now (arc_value e.image) e.limit e.number e.steps c.go_on.new.steps c.min-most.result e.first (state_of e.cpu e.memory) (state_of c.go_on.new.cpu c.go_on.new.memory) e.olds.items c.go_on.new.olds.items =
     record { view = c.self.view_is; before = c.self.invariant; leads = c.go_on.ensures.after; few = c.go_on.ensures.few; bound = c.min-most.ensures } in
     let stopped = rw c.in-Fault.is at c.in-Ok.ensures.stopped in
     fault_told _ _ _ _ _ _ _ _ _ _ _ _ c.in-Fault.fault found stopped
@@ -18,7 +19,7 @@ returns-in-Fault-clause-answered c =
 pub returns-in-Fault-clause-ends : goal.returns-in-Fault-clause-ends
 returns-in-Fault-clause-ends c =
     let e = c.self.inside in
-    let found : Found c.args.self.now e.code e.limit e.number e.steps c.go_on.new.steps c.min-most.result e.first (state_of e.cpu e.memory) (state_of c.go_on.new.cpu c.go_on.new.memory) e.olds.items c.go_on.new.olds.items =
+    let found : Found c.args.self.now (arc_value e.image) e.limit e.number e.steps c.go_on.new.steps c.min-most.result e.first (state_of e.cpu e.memory) (state_of c.go_on.new.cpu c.go_on.new.memory) e.olds.items c.go_on.new.olds.items =
     record { view = c.self.view_is; before = c.self.invariant; leads = c.go_on.ensures.after; few = c.go_on.ensures.few; bound = c.min-most.ensures } in
     let stopped = rw c.in-Fault.is at c.in-Ok.ensures.stopped in
     ends_by ends_once c.args.self.now _ (Err (ends.Fault c.in-Fault.fault)) (fault_told _ _ _ _ _ _ _ _ _ _ _ _ c.in-Fault.fault found stopped)
@@ -26,7 +27,7 @@ returns-in-Fault-clause-ends c =
 pub returns-in-Ok-chunk_of-clause-answered : goal.returns-in-Ok-chunk_of-clause-answered
 returns-in-Ok-chunk_of-clause-answered c =
     let e = c.self.inside in
-    let found : Found c.args.self.now e.code e.limit e.number e.steps c.go_on.new.steps c.min-most.result e.first (state_of e.cpu e.memory) (state_of c.go_on.new.cpu c.go_on.new.memory) e.olds.items c.go_on.new.olds.items =
+    let found : Found c.args.self.now (arc_value e.image) e.limit e.number e.steps c.go_on.new.steps c.min-most.result e.first (state_of e.cpu e.memory) (state_of c.go_on.new.cpu c.go_on.new.memory) e.olds.items c.go_on.new.olds.items =
     record { view = c.self.view_is; before = c.self.invariant; leads = c.go_on.ensures.after; few = c.go_on.ensures.few; bound = c.min-most.ensures } in
     let stopped = rw c.in-Halt.is at c.in-Ok.ensures.stopped in
     last_told c.execution_law.ensures.executes c.execution_law.ensures.good _ _ _ _ _ _ _ _ _ _ _ _ c.in-Ok-chunk_of.chunk c.public.result found stopped (c.in-Ok-chunk_of.ensures ∙ ap (piece e.number e.first (c.go_on.new.steps + 1)) c.deref.ensures.value) c.public.ensures
@@ -34,7 +35,7 @@ returns-in-Ok-chunk_of-clause-answered c =
 pub returns-in-Ok-chunk_of-clause-ends : goal.returns-in-Ok-chunk_of-clause-ends
 returns-in-Ok-chunk_of-clause-ends c =
     let e = c.self.inside in
-    let found : Found c.args.self.now e.code e.limit e.number e.steps c.go_on.new.steps c.min-most.result e.first (state_of e.cpu e.memory) (state_of c.go_on.new.cpu c.go_on.new.memory) e.olds.items c.go_on.new.olds.items =
+    let found : Found c.args.self.now (arc_value e.image) e.limit e.number e.steps c.go_on.new.steps c.min-most.result e.first (state_of e.cpu e.memory) (state_of c.go_on.new.cpu c.go_on.new.memory) e.olds.items c.go_on.new.olds.items =
     record { view = c.self.view_is; before = c.self.invariant; leads = c.go_on.ensures.after; few = c.go_on.ensures.few; bound = c.min-most.ensures } in
     let stopped = rw c.in-Halt.is at c.in-Ok.ensures.stopped in
     ends_by ends_once c.args.self.now _ (Ok (steps.Last c.in-Ok-chunk_of.chunk c.public.result)) (last_told c.execution_law.ensures.executes c.execution_law.ensures.good _ _ _ _ _ _ _ _ _ _ _ _ c.in-Ok-chunk_of.chunk c.public.result found stopped (c.in-Ok-chunk_of.ensures ∙ ap (piece e.number e.first (c.go_on.new.steps + 1)) c.deref.ensures.value) c.public.ensures)
@@ -42,15 +43,15 @@ returns-in-Ok-chunk_of-clause-ends c =
 pub returns-in-Next-clause-answered : goal.returns-in-Next-clause-answered
 returns-in-Next-clause-answered c =
     let e = c.self.inside in
-    let found : Found c.args.self.now e.code e.limit e.number e.steps c.go_on.new.steps c.min-most.result e.first (state_of e.cpu e.memory) (state_of c.go_on.new.cpu c.go_on.new.memory) e.olds.items c.go_on.new.olds.items =
+    let found : Found c.args.self.now (arc_value e.image) e.limit e.number e.steps c.go_on.new.steps c.min-most.result e.first (state_of e.cpu e.memory) (state_of c.go_on.new.cpu c.go_on.new.memory) e.olds.items c.go_on.new.olds.items =
     record { view = c.self.view_is; before = c.self.invariant; leads = c.go_on.ensures.after; few = c.go_on.ensures.few; bound = c.min-most.ensures } in
     let stopped = rw c.in-Next.is at c.in-Ok.ensures.stopped in
-    limit_told _ _ _ _ _ _ _ _ _ _ _ _ found stopped c.if-most-lt1024.true
+    limit_told _ _ _ _ _ _ _ _ _ _ _ _ found stopped c.if-most-lt-STEPS_PER_CHUNK.true
 
 pub returns-in-Next-clause-ends : goal.returns-in-Next-clause-ends
 returns-in-Next-clause-ends c =
     let e = c.self.inside in
-    let found : Found c.args.self.now e.code e.limit e.number e.steps c.go_on.new.steps c.min-most.result e.first (state_of e.cpu e.memory) (state_of c.go_on.new.cpu c.go_on.new.memory) e.olds.items c.go_on.new.olds.items =
+    let found : Found c.args.self.now (arc_value e.image) e.limit e.number e.steps c.go_on.new.steps c.min-most.result e.first (state_of e.cpu e.memory) (state_of c.go_on.new.cpu c.go_on.new.memory) e.olds.items c.go_on.new.olds.items =
     record { view = c.self.view_is; before = c.self.invariant; leads = c.go_on.ensures.after; few = c.go_on.ensures.few; bound = c.min-most.ensures } in
     let stopped = rw c.in-Next.is at c.in-Ok.ensures.stopped in
-    ends_by ends_once c.args.self.now _ (Err (ends.StepLimit c.self.inside.limit)) (limit_told _ _ _ _ _ _ _ _ _ _ _ _ found stopped c.if-most-lt1024.true)
+    ends_by ends_once c.args.self.now _ (Err (ends.StepLimit c.self.inside.limit)) (limit_told _ _ _ _ _ _ _ _ _ _ _ _ found stopped c.if-most-lt-STEPS_PER_CHUNK.true)
