@@ -4,3 +4,4 @@ pub mod Completes
 pub mod Facts
 pub mod After
 pub mod Pieces
+pub mod Bounds
