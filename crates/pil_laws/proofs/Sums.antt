@@ -1,11 +1,11 @@
 -- What several lists send.
-use Rattle.std.proofs.Common.{ℕ, ◌+◌, ◌≡◌, ◌≢◌, List, [], ◌∷◌, ◌++◌, flat_map, ap, ◌∙◌, arith}
+use Rattle.std.proofs.Common.{ℕ, ◌+◌, ◌≡◌, ◌≢◌, List, [], ◌∷◌, ◌++◌, flat_map, refl, ap, subst, ◌∙◌, arith}
 use Rattle.std.specs.List.{sum_by, Contains}
 use Rattle.std.proofs.lemmas.List.Sums.{sum_by-append}
 use Rattle.std.proofs.lemmas.Grind.{flat_map-append}
-use Rattle.pil_ast.specs.Term.{Tuples, Namespace}
+use Rattle.pil_ast.specs.Term.{Tuples, lookup, Namespace}
 use Rattle.pil_ast.specs.Columns.{Columns}
-use Rattle.pil_ast.specs.Holds.{times, AsOften, sent, all_sent}
+use Rattle.pil_ast.specs.Holds.{Holds, times, AsOften, sent, all_sent}
 use Rattle.pil_laws.specs.Sends.{Sends}
 use Rattle.pil_laws.proofs.Sent.{from_sent, into_sent}
 use Rattle.pil_laws.proofs.Times.{times_none, times_append, times_part, part_times}
@@ -42,7 +42,18 @@ module _ (ns : List Namespace) (c : Columns) where
   unfolding all_sent
   weigh_more h a ls = sum_by-append h (sent ns c a) (flat_map (sent ns c) ls)
 
-  -- What a row sends on one side of an `is` of two lists, a row sends on the other.
+  -- Where an `is` holds, what a row sends on one side, a row sends on the other.
+  pub carried : (ls rs : List Tuples) → AsOften (all_sent ns c ls) (all_sent ns c rs) → (t : List ℕ) (a : Tuples) → Contains ls a → Sends ns c a t → (b : Tuples) × Contains rs b × Sends ns c b t
+  carried ls rs e t a h s = from_all t rs (λ z. into_all t ls a h s (e t ∙ z))
+
+  -- The same of two lists.
   pub other_side : (a b : Tuples) → AsOften (all_sent ns c (a ∷ [])) (all_sent ns c (b ∷ [])) → (t : List ℕ) → Sends ns c b t → Sends ns c a t
   other_side a b e t s =
       from_sent ns c a t (λ z. into_sent ns c b t s (let x = times_single a t in let y = times_single b t in let w = e t in omega arith))
+
+  -- An `in` holds where what a row sends on the left, a row sends on the right, and only there.
+  pub contained : (a b : Tuples) → Holds ns c (lookup a b) → (t : List ℕ) → Sends ns c a t → Sends ns c b t
+  contained a b h t s = from_sent ns c b t (subst (λ u. times u (sent ns c b) ≢ 0) s.is_tuple (h s.instance s.row s.is_instance s.is_row s.is_selected))
+
+  pub contains : (a b : Tuples) → ((t : List ℕ) → Sends ns c a t → Sends ns c b t) → Holds ns c (lookup a b)
+  contains a b h = λ i r l m on. into_sent ns c b _ (h _ (record { instance = i; row = r; is_instance = l; is_row = m; is_selected = on; is_tuple = refl }))

@@ -2,7 +2,7 @@
 use Rattle.std.specs.Prelude.{ℕ, ◌+◌, ◌<◌, ◌≡◌, ◌≢◌, ◌↔◌, true, List, Some, Contains, slice_get, flat_map, sum_by}
 use Rattle.std.specs.List.Sorted.{IsPermutation}
 use Rattle.gold.specs.Field.{p}
-use Rattle.pil_ast.specs.Term.{Term, Tuples, Line, Namespace, item_at, space_at}
+use Rattle.pil_ast.specs.Term.{Term, Tuples, Line, lookup, bus, Namespace, item_at, space_at}
 use Rattle.pil_ast.specs.Columns.{Columns}
 use Rattle.pil_ast.specs.Value.{public_value}
 use Rattle.pil_ast.specs.Sound.{IsSound}
@@ -19,6 +19,15 @@ SendsLaw = (ns : List Namespace) (c : Columns) (a : Tuples) (t : List ℕ) → (
 -- The same of several lists: one of them sends it.
 abbrev pub SumLaw : Type 0
 SumLaw = (ns : List Namespace) (c : Columns) (ls : List Tuples) (t : List ℕ) → (times t (all_sent ns c ls) ≢ 0) ↔ ((a : Tuples) × Contains ls a × Sends ns c a t)
+
+-- An `in` holds where each tuple that a row sends on the left, a row sends on the right, and only there.
+abbrev pub InLaw : Type 0
+InLaw = (ns : List Namespace) (c : Columns) (a b : Tuples) → Holds ns c (lookup a b) ↔ ((t : List ℕ) → Sends ns c a t → Sends ns c b t)
+
+-- Where an `is` holds, each tuple that a row sends on the left, a row sends on the right.
+abbrev pub IsLaw : Type 0
+IsLaw =
+    (ns : List Namespace) (c : Columns) (ls rs : List Tuples) (t : List ℕ) (a : Tuples) → Holds ns c (bus ls rs) → Contains ls a → Sends ns c a t → (b : Tuples) × Contains rs b × Sends ns c b t
 
 -- Two lists hold each tuple equally often where every weight of tuples sums up to the same, and only there.
 abbrev pub WeightLaw : Type 0

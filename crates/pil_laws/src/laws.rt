@@ -1,11 +1,14 @@
 //! The main lemmas, as laws.
-ghost use Rattle.pil_laws.specs.Laws.{SendsLaw, SumLaw, WeightLaw, OrderLaw, JointLaw, TableLaw, TextLaw, RowsLaw, LinesLaw, PublicLaw};
+ghost use Rattle.pil_laws.specs.Laws.{SendsLaw, SumLaw, InLaw, IsLaw, WeightLaw, OrderLaw, JointLaw, TableLaw, TextLaw, RowsLaw, LinesLaw, PublicLaw};
 
 /// What lists of tuples send and how often (docs/PIL.md, "Lines"): a tuple that is sent has a row
-/// behind it; lists that hold each tuple equally often have the same weights; order is of no matter.
+/// behind it; an `in` and an `is` find for each row one on the other side; lists that hold each tuple
+/// equally often have the same weights, and order is of no matter.
 pub fn sent_laws()
     ensures sends { SendsLaw }
     ensures sum { SumLaw }
+    ensures lookup { InLaw }
+    ensures bus { IsLaw }
     ensures weight { WeightLaw }
     ensures order { OrderLaw }
 {}
