@@ -6,19 +6,19 @@ use std::sync::Arc;
 use std::test::Fail;
 
 // The image of ECALL alone, which no test runs.
-fn image(alloc: Global) -> Result<Arc<Image, Global>, AllocError> {
-    let ecall = Segment {
+fn image(alloc: Global) -> Result<Image, AllocError> {
+    let mut segments = Vec::new(alloc);
+    segments.push(Segment {
         start: 0,
         len: 4,
         exec: true,
-        bytes: Vec::from_array(alloc, [0x73, 0, 0, 0])?,
-    };
-    let image = Image {
+        bytes: [0x73, 0, 0, 0].to_vec(alloc)?,
+    })?;
+    Ok(Image {
         entry: 0,
-        segments: Vec::from_array(alloc, [ecall])?,
+        segments,
         input: Vec::new(alloc),
-    };
-    Ok(Arc::new(alloc, image)?)
+    })
 }
 
 fn is_stop(ticket: &Ticket) -> bool {
@@ -32,7 +32,8 @@ fn is_stop(ticket: &Ticket) -> bool {
 #[tactic(auto, unfolding(crate::specs::Truth::IsTrueOf))]
 fn queue_of_one(rt: HostRuntime) -> Result<(), Fail> {
     let alloc = rt.alloc();
-    let (queue, pass) = JobQueue::new(alloc, 1, 2, image(alloc)?)?;
+    let image = Arc::new(alloc, image(alloc)?)?;
+    let (queue, pass) = JobQueue::new(alloc, 1, 2, image)?;
     let (pass, pushed) = queue.push_as(&rt, pass, Ticket::Stop);
     assert!(rt; pushed.is_ok());
     let (pass, refused) = queue.push_as(&rt, pass, Ticket::Stop);
