@@ -1,0 +1,4 @@
+pub mod Runs
+pub mod Truth
+pub mod Rule
+pub mod Calls
