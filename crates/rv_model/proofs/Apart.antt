@@ -13,7 +13,7 @@ use Rattle.rv_model.specs.declared.answer.StepAnswer.TheVariants as answers
 use Rattle.rv_model.specs.declared.cpu.Cpu.{Cpu}
 
 -- the answer with this memory
-abbrev remembered : Answer → (ℕ → ℕ) → Answer
+abbrev pub remembered : Answer → (ℕ → ℕ) → Answer
 remembered (Next t) word = Next (record { pc = t.pc; x = t.x; word = word })
 remembered Halt word = Halt
 remembered (Fault f) word = Fault f
@@ -50,7 +50,7 @@ store_apart : (kind : Kind) (address value old : ℕ) (c : Cpu) (word : ℕ → 
 unfolding store
 store_apart kind address value old c word = simp remembered-if
 
-executed_apart : (i : Instr) (c : Cpu) (old : ℕ) (word : ℕ → ℕ) → Touches i (with_memory c word) old → executed i (with_memory c word) ≡ remembered (executed i (constant c old)) (memory_after i (with_memory c word))
+pub executed_apart : (i : Instr) (c : Cpu) (old : ℕ) (word : ℕ → ℕ) → Touches i (with_memory c word) old → executed i (with_memory c word) ≡ remembered (executed i (constant c old)) (memory_after i (with_memory c word))
 executed_apart (Lui rd imm) c old word h = refl
 executed_apart (Auipc rd imm) c old word h = refl
 executed_apart (Jal rd imm) c old word h = simp remembered-if

@@ -5,3 +5,4 @@ pub mod Ends
 pub mod Steps
 pub mod ByteMemory
 pub mod Decoded
+pub mod ByteSteps

@@ -7,3 +7,4 @@ pub mod State
 pub mod Cpu
 pub mod Run
 pub mod Plain
+pub mod ByteMachine

@@ -1,7 +1,9 @@
 //! Operations at their edges, and small programs whose ends are known.
 ghost use Rattle.std.specs.Prelude.{◌≡◌, ◌%◌, ◌≤◌};
 
-use crate::{Image, PlainCpu, Ran, RunEnd, RunFault, Segment, StepAnswer, align, op, run};
+use crate::{
+    Image, PlainCpu, Ran, RunEnd, RunFault, Segment, StepAnswer, align, byte_machine, op, run,
+};
 use rv_word::{Instr, Kind, OpNo};
 use std::alloc::{AllocError, Global};
 use std::process::Abort;
@@ -184,6 +186,11 @@ fn steps_of_a_store(rt: HostRuntime) -> Result<(), Fail> {
     assert_eq!(&rt; cpu.public().output[8], 0xFF);
     assert_eq!(&rt; cpu.public().output[16], 0);
     Ok(())
+}
+
+#[test]
+fn bytes_of_memory(rt: HostRuntime) {
+    byte_machine();
 }
 
 #[test]
