@@ -1,7 +1,8 @@
 //! What is loaded.
-ghost use Rattle.std.specs.Prelude.{◌≡◌, ◌+◌, ◌≤◌, ◌^◌, length, IfOk};
+ghost use Rattle.std.specs.Prelude.{◌≡◌, ◌+◌, ◌≤◌, length, IfOk};
 ghost use Rattle.rv_model.specs.Image.{IsLoadable};
 
+use crate::INPUT_LEN;
 use crate::code::{Part, parts_of};
 use std::alloc::{AllocError, Global};
 use std::marker::Model;
@@ -36,7 +37,7 @@ pub struct Image {
     pub entry: u64,
     /// In ascending order; no two share an address.
     pub segments: Vec<Segment>,
-    /// At most 2^24 - 8 bytes.
+    /// With its length in eight bytes it fits into the input window.
     pub input: Vec<u8>,
     pub(crate) parts: Vec<Part>,
 }
@@ -74,9 +75,9 @@ impl Image {
         Ok(image)
     }
 
-    /// The same image with this input, which has at most 2^24 - 8 bytes.
+    /// The same image with this input, which fits into the input window after its length.
     pub fn with_input(self, input: Vec<u8>) -> Image
-        requires { length input.items + 8 ≤ 2 ^ 24 }
+        requires { length input.items + 8 ≤ INPUT_LEN }
         ensures { result ≡ record self { input = input.items } }
     {
         let mut image = self;
