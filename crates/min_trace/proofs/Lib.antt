@@ -5,3 +5,4 @@ pub mod Facts
 pub mod After
 pub mod Pieces
 pub mod Bounds
+pub mod Values
