@@ -6,3 +6,4 @@ pub mod After
 pub mod Pieces
 pub mod Bounds
 pub mod Values
+pub mod Beginning

@@ -151,7 +151,7 @@ byte_in bs i all = elim (cases_lt i (length bs)) [
   | inr past ↦ let e : get_or bs i 0 ≡ 0 = get_or_past bs i 0 past in omega arith
 ]
 
-joined_below : (bs : List ℕ) → ((i : ℕ) → get_or bs i 0 < 256) → from_le_bytes w64 bs < 2 ^ 64
+pub joined_below : (bs : List ℕ) → ((i : ℕ) → get_or bs i 0 < 256) → from_le_bytes w64 bs < 2 ^ 64
 joined_below bs h = omega (arith, h 0, h 1, h 2, h 3, h 4, h 5, h 6, h 7)
 
 put_below : (n off old value : ℕ) → put n off old value < 2 ^ 64
