@@ -5,3 +5,5 @@ pub mod Facts
 pub mod After
 pub mod Pieces
 pub mod Bounds
+pub mod Values
+pub mod Beginning
