@@ -1,7 +1,7 @@
 -- The namespace Arith: a row is a product or a quotient.
 use Rattle.std.specs.Prelude.{ℕ, ◌+◌, false, List, [], ◌∷◌, ◌++◌, Some, None, codes}
-use Rattle.pil_ast.specs.Term.{Term, num, col, mid, ◌⊕◌, ◌⊖◌, ◌⊗◌, Line, commit, inter, identity, lookup, Namespace}
-use Rattle.machine_text.specs.Words.{K, M, lo2, hi2, lo2_parts, hi2_parts, all, total, numbered, rows, BIT, R16, each, ◌⊞◌}
+use Rattle.pil_ast.specs.Term.{Term, num, col, mid, ◌⊕◌, ◌⊖◌, ◌⊗◌, Tuples, Line, commit, inter, identity, lookup, Namespace}
+use Rattle.machine_text.specs.Words.{K, M, lo2, hi2, lo2_parts, hi2_parts, all, total, numbered, rows, BIT, R16, each, ◌⊞◌, rows_with}
 
 abbrev pub here : ℕ
 here = 12
@@ -198,6 +198,10 @@ clo = mid here 61 false
 abbrev pub chi : Term
 chi = mid here 62 false
 
+-- the operation of a row as Main sends it: its number, the limbs of a, of b and of the value, and the flag
+abbrev pub operation : Tuples
+operation = rows_with here sel (op ∷ alo ∷ ahi ∷ blo ∷ bhi ∷ clo ∷ chi ∷ num 0 ∷ [])
+
 abbrev pub items : List Line
 items =
     commit (codes "sel") None ∷
@@ -263,39 +267,39 @@ items =
     inter (codes "on") (sel ⊗ (num 1 ⊖ dq ⊗ zb)) ∷
     inter (codes "clo") zlo ∷
     inter (codes "chi") ((num 1 ⊖ ww) ⊗ zhi ⊕ ww ⊗ sw ⊗ M) ∷
-    lookup (rows here (sel ∷ [])) BIT ∷    -- 158
-    each here sel (all 13 q) BIT ++    -- 159 to 171
-    is_zero (sel ⊗ (total (all 13 q) ⊖ num 1)) ∷    -- 172
-    each here sel (all 4 a ++ all 4 b ++ all 4 x ++ all 4 y ++ all 4 r ++ all 8 w ++ all 7 cl ++ all 7 ch
-        ++ all 2 n ++ all 4 g ++ all 4 z ++ (ra ∷ (num 2 ⊗ ra) ∷ rb ∷ (num 2 ⊗ rb) ∷ rw' ∷ (num 2 ⊗ rw') ∷
-        [])) R16 ++    -- 173 to 230
-    each here sel (ta ∷ tb ∷ ka ∷ kb ∷ kn ∷ zb ∷ kg ∷ k1 ∷ k2 ∷ sw ∷ []) BIT ++    -- 231 to 240
-    is_zero (sel ⊗ (ww ⊗ a 1 ⊕ (num 1 ⊖ ww) ⊗ a 3 ⊖ num 32768 ⊗ ta ⊖ ra)) ∷    -- 241
-    is_zero (sel ⊗ (ww ⊗ b 1 ⊕ (num 1 ⊖ ww) ⊗ b 3 ⊖ num 32768 ⊗ tb ⊖ rb)) ∷    -- 242
-    is_zero (sel ⊗ (na ⊗ (malo ⊕ alo ⊖ K ⊗ ka) ⊕ (num 1 ⊖ na) ⊗ (malo ⊖ alo))) ∷    -- 243
-    is_zero (sel ⊗ (na ⊗ (mahi ⊕ eahi ⊕ ka ⊖ K) ⊕ (num 1 ⊖ na) ⊗ (mahi ⊖ eahi))) ∷    -- 244
-    is_zero (sel ⊗ (nb ⊗ (ylo ⊕ blo ⊖ K ⊗ kb) ⊕ (num 1 ⊖ nb) ⊗ (ylo ⊖ blo))) ∷    -- 245
-    is_zero (sel ⊗ (nb ⊗ (yhi ⊕ ebhi ⊕ kb ⊖ K) ⊕ (num 1 ⊖ nb) ⊗ (yhi ⊖ ebhi))) ∷    -- 246
-    is_zero (sel ⊗ mu ⊗ total (all 4 r)) ∷    -- 247
-    is_zero (sel ⊗ dv ⊗ (w 4 ⊕ w 5 ⊕ w 6 ⊕ w 7)) ∷    -- 248
-    is_zero (sel ⊗ (x 0 ⊗ y 0 ⊕ r 0 ⊖ w 0 ⊖ num 65536 ⊗ c0)) ∷    -- 249
-    is_zero (sel ⊗ (x 0 ⊗ y 1 ⊕ x 1 ⊗ y 0 ⊕ r 1 ⊕ c0 ⊖ w 1 ⊖ num 65536 ⊗ c1)) ∷    -- 250
-    is_zero (sel ⊗ (x 0 ⊗ y 2 ⊕ x 1 ⊗ y 1 ⊕ x 2 ⊗ y 0 ⊕ r 2 ⊕ c1 ⊖ w 2 ⊖ num 65536 ⊗ c2)) ∷    -- 251
-    is_zero (sel ⊗ (x 0 ⊗ y 3 ⊕ x 1 ⊗ y 2 ⊕ x 2 ⊗ y 1 ⊕ x 3 ⊗ y 0 ⊕ r 3 ⊕ c2 ⊖ w 3 ⊖ num 65536 ⊗ c3)) ∷    -- 252
-    is_zero (sel ⊗ (x 1 ⊗ y 3 ⊕ x 2 ⊗ y 2 ⊕ x 3 ⊗ y 1 ⊕ c3 ⊖ w 4 ⊖ num 65536 ⊗ c4)) ∷    -- 253
-    is_zero (sel ⊗ (x 2 ⊗ y 3 ⊕ x 3 ⊗ y 2 ⊕ c4 ⊖ w 5 ⊖ num 65536 ⊗ c5)) ∷    -- 254
-    is_zero (sel ⊗ (x 3 ⊗ y 3 ⊕ c5 ⊖ w 6 ⊖ num 65536 ⊗ c6)) ∷    -- 255
-    is_zero (sel ⊗ (c6 ⊖ w 7)) ∷    -- 256
-    is_zero (sel ⊗ hi ⊗ (num 1 ⊖ kn) ⊗ s) ∷    -- 257
-    is_zero (sel ⊗ hi ⊗ kn ⊗ (s ⊖ num 1 ⊖ lo2 n)) ∷    -- 258
-    is_zero (sel ⊗ zb ⊗ total (all 4 y)) ∷    -- 259
-    is_zero (sel ⊗ dv ⊗ (num 1 ⊖ zb) ⊗ (lo2 r ⊞ (lo2_parts g) ⊕ num 1 ⊖ ylo ⊖ K ⊗ kg)) ∷    -- 260
-    is_zero (sel ⊗ dv ⊗ (num 1 ⊖ zb) ⊗ (hi2 r ⊞ (hi2_parts g) ⊕ kg ⊖ yhi)) ∷    -- 261
-    is_zero (on ⊗ (nf ⊗ (vlo ⊕ zlo ⊕ hi ⊗ kn ⊖ K ⊗ k1) ⊕ (num 1 ⊖ nf) ⊗ (zlo ⊖ vlo))) ∷    -- 262
-    is_zero (on ⊗ (nf ⊗ (vhi ⊕ zhi ⊕ k1 ⊖ K ⊗ k2) ⊕ (num 1 ⊖ nf) ⊗ (zhi ⊖ vhi))) ∷    -- 263
-    is_zero (sel ⊗ dq ⊗ zb ⊗ (zlo ⊖ M)) ∷    -- 264
-    is_zero (sel ⊗ dq ⊗ zb ⊗ (zhi ⊖ M)) ∷    -- 265
-    is_zero (sel ⊗ (z 1 ⊖ num 32768 ⊗ sw ⊖ rw')) ∷ []    -- 266
+    lookup (rows here (sel ∷ [])) BIT ∷  -- 158
+    each here sel (all 13 q) BIT ++  -- 159 to 171
+    is_zero (sel ⊗ (total (all 13 q) ⊖ num 1)) ∷  -- 172
+    each here sel
+    (all 4 a ++ all 4 b ++ all 4 x ++ all 4 y ++ all 4 r ++ all 8 w ++ all 7 cl ++ all 7 ch ++ all 2 n ++ all 4 g
+    ++ all 4 z ++ (ra ∷ (num 2 ⊗ ra) ∷ rb ∷ (num 2 ⊗ rb) ∷ rw' ∷ (num 2 ⊗ rw') ∷ [])) R16 ++  -- 173 to 230
+    each here sel (ta ∷ tb ∷ ka ∷ kb ∷ kn ∷ zb ∷ kg ∷ k1 ∷ k2 ∷ sw ∷ []) BIT ++  -- 231 to 240
+    is_zero (sel ⊗ (ww ⊗ a 1 ⊕ (num 1 ⊖ ww) ⊗ a 3 ⊖ num 32768 ⊗ ta ⊖ ra)) ∷  -- 241
+    is_zero (sel ⊗ (ww ⊗ b 1 ⊕ (num 1 ⊖ ww) ⊗ b 3 ⊖ num 32768 ⊗ tb ⊖ rb)) ∷  -- 242
+    is_zero (sel ⊗ (na ⊗ (malo ⊕ alo ⊖ K ⊗ ka) ⊕ (num 1 ⊖ na) ⊗ (malo ⊖ alo))) ∷  -- 243
+    is_zero (sel ⊗ (na ⊗ (mahi ⊕ eahi ⊕ ka ⊖ K) ⊕ (num 1 ⊖ na) ⊗ (mahi ⊖ eahi))) ∷  -- 244
+    is_zero (sel ⊗ (nb ⊗ (ylo ⊕ blo ⊖ K ⊗ kb) ⊕ (num 1 ⊖ nb) ⊗ (ylo ⊖ blo))) ∷  -- 245
+    is_zero (sel ⊗ (nb ⊗ (yhi ⊕ ebhi ⊕ kb ⊖ K) ⊕ (num 1 ⊖ nb) ⊗ (yhi ⊖ ebhi))) ∷  -- 246
+    is_zero (sel ⊗ mu ⊗ total (all 4 r)) ∷  -- 247
+    is_zero (sel ⊗ dv ⊗ (w 4 ⊕ w 5 ⊕ w 6 ⊕ w 7)) ∷  -- 248
+    is_zero (sel ⊗ (x 0 ⊗ y 0 ⊕ r 0 ⊖ w 0 ⊖ num 65536 ⊗ c0)) ∷  -- 249
+    is_zero (sel ⊗ (x 0 ⊗ y 1 ⊕ x 1 ⊗ y 0 ⊕ r 1 ⊕ c0 ⊖ w 1 ⊖ num 65536 ⊗ c1)) ∷  -- 250
+    is_zero (sel ⊗ (x 0 ⊗ y 2 ⊕ x 1 ⊗ y 1 ⊕ x 2 ⊗ y 0 ⊕ r 2 ⊕ c1 ⊖ w 2 ⊖ num 65536 ⊗ c2)) ∷  -- 251
+    is_zero (sel ⊗ (x 0 ⊗ y 3 ⊕ x 1 ⊗ y 2 ⊕ x 2 ⊗ y 1 ⊕ x 3 ⊗ y 0 ⊕ r 3 ⊕ c2 ⊖ w 3 ⊖ num 65536 ⊗ c3)) ∷  -- 252
+    is_zero (sel ⊗ (x 1 ⊗ y 3 ⊕ x 2 ⊗ y 2 ⊕ x 3 ⊗ y 1 ⊕ c3 ⊖ w 4 ⊖ num 65536 ⊗ c4)) ∷  -- 253
+    is_zero (sel ⊗ (x 2 ⊗ y 3 ⊕ x 3 ⊗ y 2 ⊕ c4 ⊖ w 5 ⊖ num 65536 ⊗ c5)) ∷  -- 254
+    is_zero (sel ⊗ (x 3 ⊗ y 3 ⊕ c5 ⊖ w 6 ⊖ num 65536 ⊗ c6)) ∷  -- 255
+    is_zero (sel ⊗ (c6 ⊖ w 7)) ∷  -- 256
+    is_zero (sel ⊗ hi ⊗ (num 1 ⊖ kn) ⊗ s) ∷  -- 257
+    is_zero (sel ⊗ hi ⊗ kn ⊗ (s ⊖ num 1 ⊖ lo2 n)) ∷  -- 258
+    is_zero (sel ⊗ zb ⊗ total (all 4 y)) ∷  -- 259
+    is_zero (sel ⊗ dv ⊗ (num 1 ⊖ zb) ⊗ (lo2 r ⊞ (lo2_parts g) ⊕ num 1 ⊖ ylo ⊖ K ⊗ kg)) ∷  -- 260
+    is_zero (sel ⊗ dv ⊗ (num 1 ⊖ zb) ⊗ (hi2 r ⊞ (hi2_parts g) ⊕ kg ⊖ yhi)) ∷  -- 261
+    is_zero (on ⊗ (nf ⊗ (vlo ⊕ zlo ⊕ hi ⊗ kn ⊖ K ⊗ k1) ⊕ (num 1 ⊖ nf) ⊗ (zlo ⊖ vlo))) ∷  -- 262
+    is_zero (on ⊗ (nf ⊗ (vhi ⊕ zhi ⊕ k1 ⊖ K ⊗ k2) ⊕ (num 1 ⊖ nf) ⊗ (zhi ⊖ vhi))) ∷  -- 263
+    is_zero (sel ⊗ dq ⊗ zb ⊗ (zlo ⊖ M)) ∷  -- 264
+    is_zero (sel ⊗ dq ⊗ zb ⊗ (zhi ⊖ M)) ∷  -- 265
+    is_zero (sel ⊗ (z 1 ⊖ num 32768 ⊗ sw ⊖ rw')) ∷ []  -- 266
 
 abbrev pub space : Namespace
 space = record { name = codes "Arith"; rows = 1024; items = items }

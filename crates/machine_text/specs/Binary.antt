@@ -1,6 +1,6 @@
 -- The namespace Binary: a row is a sum, a comparison, a bitwise operation, a shifted sum or a conditional zero.
 use Rattle.std.specs.Prelude.{ℕ, ◌+◌, false, List, [], ◌∷◌, ◌++◌, Some, None, codes}
-use Rattle.pil_ast.specs.Term.{Term, num, col, mid, ◌⊕◌, ◌⊖◌, ◌⊗◌, Line, commit, inter, identity, lookup, Namespace}
+use Rattle.pil_ast.specs.Term.{Term, num, col, mid, ◌⊕◌, ◌⊖◌, ◌⊗◌, Tuples, Line, commit, inter, identity, lookup, Namespace}
 use Rattle.machine_text.specs.Words.{K, M, lo4, hi4, lo2, hi2, all, total, numbered, rows, rows_with, BIT, R16, each, for, ◌⊞◌}
 use Rattle.machine_text.specs.BinTab
 
@@ -124,6 +124,10 @@ chi = mid here 36 false
 abbrev pub s : Term
 s = mid here 37 false
 
+-- the operation of a row as Main sends it: its number, the limbs of a, of b and of the value, and the flag
+abbrev pub operation : Tuples
+operation = rows_with here sel (op ∷ alo ∷ ahi ∷ blo ∷ bhi ∷ clo ∷ chi ∷ flag ∷ [])
+
 abbrev pub items : List Line
 items =
     commit (codes "sel") None ∷
@@ -161,30 +165,31 @@ items =
     inter (codes "kp") (x 3 ⊗ (num 1 ⊖ eq) ⊕ x 4 ⊗ eq) ∷
     inter (codes "df") (sa ⊕ sb ⊖ num 2 ⊗ sa ⊗ sb) ∷
     inter (codes "flag") (q 2 ⊗ k1 ⊕ q 3 ⊗ (df ⊗ sa ⊕ (num 1 ⊖ df) ⊗ k1) ⊕ q 4 ⊗ eq) ∷
-    inter (codes "clo") ((q 0 ⊕ q 1 ⊕ q 8 ⊕ q 9 ⊕ sh) ⊗ zlo ⊕ flag ⊕ kp ⊗ alo ⊕ q 5 ⊗ nlo ⊕ q 6 ⊗ (alo ⊕ blo
-        ⊖ nlo) ⊕ q 7 ⊗ (alo ⊕ blo ⊖ num 2 ⊗ nlo)) ∷
-    inter (codes "chi") ((q 0 ⊕ q 1 ⊕ sh) ⊗ zhi ⊕ kp ⊗ ahi ⊕ (q 8 ⊕ q 9) ⊗ sw ⊗ M ⊕ q 5 ⊗ nhi ⊕ q 6 ⊗ (ahi
-        ⊕ bhi ⊖ nhi) ⊕ q 7 ⊗ (ahi ⊕ bhi ⊖ num 2 ⊗ nhi)) ∷
+    inter (codes "clo")
+    ((q 0 ⊕ q 1 ⊕ q 8 ⊕ q 9 ⊕ sh) ⊗ zlo ⊕ flag ⊕ kp ⊗ alo
+    ⊕ q 5 ⊗ nlo ⊕ q 6 ⊗ (alo ⊕ blo ⊖ nlo) ⊕ q 7 ⊗ (alo ⊕ blo ⊖ num 2 ⊗ nlo)) ∷
+    inter (codes "chi")
+    ((q 0 ⊕ q 1 ⊕ sh) ⊗ zhi ⊕ kp ⊗ ahi ⊕ (q 8 ⊕ q 9) ⊗ sw ⊗ M
+    ⊕ q 5 ⊗ nhi ⊕ q 6 ⊗ (ahi ⊕ bhi ⊖ nhi) ⊕ q 7 ⊗ (ahi ⊕ bhi ⊖ num 2 ⊗ nhi)) ∷
     inter (codes "s") (total (all 4 z)) ∷
-    lookup (rows here (sel ∷ [])) BIT ∷    -- 75
-    each here sel (all 10 q ++ all 5 x) BIT ++    -- 76 to 90
-    is_zero (sel ⊗ (total (all 10 q) ⊞ (all 5 x) ⊖ num 1)) ∷    -- 91
-    for 8 (λ i. lookup (rows_with here sel (a i ∷ b i ∷ n i ∷ [])) (rows BinTab.here (BinTab.X ∷ BinTab.Y ∷
-        BinTab.AND ∷ []))) ++    -- 92 to 99
-    each here sel (all 4 z) R16 ++    -- 100 to 103
-    each here sel (k0 ∷ k1 ∷ sa ∷ sb ∷ sw ∷ eq ∷ []) BIT ++    -- 104 to 109
-    each here sel ((ra ∷ (num 512 ⊗ ra) ∷ rb ∷ (num 512 ⊗ rb) ∷ rw' ∷ (num 2 ⊗ rw') ∷ []) ++ all 2 e ++ (j0 ∷
-        j1 ∷ [])) R16 ++    -- 110 to 119
-    is_zero (sel ⊗ (a 7 ⊖ num 128 ⊗ sa ⊖ ra)) ∷    -- 120
-    is_zero (sel ⊗ (b 7 ⊖ num 128 ⊗ sb ⊖ rb)) ∷    -- 121
-    is_zero (sel ⊗ (z 1 ⊖ num 32768 ⊗ sw ⊖ rw')) ∷    -- 122
-    is_zero (sel ⊗ ((num 1 ⊖ mi) ⊗ (m ⊗ alo ⊕ blo ⊖ zlo ⊖ K ⊗ (k0 ⊕ j0)) ⊕ mi ⊗ (blo ⊕ zlo ⊖ alo ⊖ K ⊗ k0))) ∷    -- 123
-    is_zero (sel ⊗ ((num 1 ⊖ mi) ⊗ (m ⊗ ahi ⊕ bhi ⊕ k0 ⊕ j0 ⊖ zhi ⊖ K ⊗ (k1 ⊕ j1)) ⊕ mi ⊗ (bhi ⊕ zhi ⊕ k0
-        ⊖ ahi ⊖ K ⊗ k1))) ∷    -- 124
-    is_zero (sel ⊗ q 4 ⊗ eq ⊗ s) ∷    -- 125
-    is_zero (sel ⊗ q 4 ⊗ (num 1 ⊖ eq) ⊗ (s ⊖ num 1 ⊖ lo2 e)) ∷    -- 126
-    is_zero (sel ⊗ cz ⊗ eq ⊗ total (all 8 b)) ∷    -- 127
-    is_zero (sel ⊗ cz ⊗ (num 1 ⊖ eq) ⊗ (total (all 8 b) ⊖ num 1 ⊖ lo2 e)) ∷ []    -- 128
+    lookup (rows here (sel ∷ [])) BIT ∷  -- 75
+    each here sel (all 10 q ++ all 5 x) BIT ++  -- 76 to 90
+    is_zero (sel ⊗ (total (all 10 q) ⊞ (all 5 x) ⊖ num 1)) ∷  -- 91
+    for 8 (λ i. lookup (rows_with here sel (a i ∷ b i ∷ n i ∷ [])) (rows BinTab.here (BinTab.X ∷ BinTab.Y ∷ BinTab.AND ∷ []))) ++  -- 92 to 99
+    each here sel (all 4 z) R16 ++  -- 100 to 103
+    each here sel (k0 ∷ k1 ∷ sa ∷ sb ∷ sw ∷ eq ∷ []) BIT ++  -- 104 to 109
+    each here sel
+    ((ra ∷ (num 512 ⊗ ra) ∷ rb ∷ (num 512 ⊗ rb) ∷ rw' ∷ (num 2 ⊗ rw') ∷ []) ++ all 2 e ++ (j0 ∷ j1 ∷ [])) R16 ++  -- 110 to 119
+    is_zero (sel ⊗ (a 7 ⊖ num 128 ⊗ sa ⊖ ra)) ∷  -- 120
+    is_zero (sel ⊗ (b 7 ⊖ num 128 ⊗ sb ⊖ rb)) ∷  -- 121
+    is_zero (sel ⊗ (z 1 ⊖ num 32768 ⊗ sw ⊖ rw')) ∷  -- 122
+    is_zero (sel ⊗ ((num 1 ⊖ mi) ⊗ (m ⊗ alo ⊕ blo ⊖ zlo ⊖ K ⊗ (k0 ⊕ j0)) ⊕ mi ⊗ (blo ⊕ zlo ⊖ alo ⊖ K ⊗ k0))) ∷  -- 123
+    is_zero
+    (sel ⊗ ((num 1 ⊖ mi) ⊗ (m ⊗ ahi ⊕ bhi ⊕ k0 ⊕ j0 ⊖ zhi ⊖ K ⊗ (k1 ⊕ j1)) ⊕ mi ⊗ (bhi ⊕ zhi ⊕ k0 ⊖ ahi ⊖ K ⊗ k1))) ∷  -- 124
+    is_zero (sel ⊗ q 4 ⊗ eq ⊗ s) ∷  -- 125
+    is_zero (sel ⊗ q 4 ⊗ (num 1 ⊖ eq) ⊗ (s ⊖ num 1 ⊖ lo2 e)) ∷  -- 126
+    is_zero (sel ⊗ cz ⊗ eq ⊗ total (all 8 b)) ∷  -- 127
+    is_zero (sel ⊗ cz ⊗ (num 1 ⊖ eq) ⊗ (total (all 8 b) ⊖ num 1 ⊖ lo2 e)) ∷ []  -- 128
 
 abbrev pub space : Namespace
 space = record { name = codes "Binary"; rows = 4096; items = items }

@@ -1,6 +1,6 @@
 -- The namespace Main: a row is a step of the run.
 use Rattle.std.specs.Prelude.{ℕ, false, List, [], ◌∷◌, ◌++◌, None, codes}
-use Rattle.pil_ast.specs.Term.{Term, num, col, mid, ◌⊕◌, ◌⊖◌, ◌⊗◌, Line, constant, commit, inter, identity, lookup, bus, Namespace}
+use Rattle.pil_ast.specs.Term.{Term, num, col, mid, ◌⊕◌, ◌⊖◌, ◌⊗◌, Tuples, Line, constant, commit, inter, identity, lookup, bus, Namespace}
 use Rattle.machine_text.specs.Words.{next, rows, rows_with, R16, each, BIT}
 use Rattle.machine_text.specs.Rom
 use Rattle.machine_text.specs.Init
@@ -179,6 +179,35 @@ nx = mid here 52 false
 abbrev pub go : Term
 go = mid here 53 false
 
+-- what an instance leaves to the next, and what that begins with
+abbrev pub leaves : Tuples
+leaves = rows_with here CLAST ((INST ⊕ num 1) ∷ go ∷ (go ⊗ nx) ∷ [])
+
+abbrev pub enters : Tuples
+enters = rows_with here CFIRST (INST ∷ sel ∷ (sel ⊗ pc) ∷ [])
+
+-- the step's instruction, operation, load or store
+abbrev pub instruction : Tuples
+instruction =
+    rows_with here sel
+    (pc ∷ rs1 ∷ rs2 ∷ rd ∷ op ∷ ilo ∷ ihi ∷ klo ∷ khi ∷ jt ∷ kind ∷
+    bi ∷ wr ∷ ld ∷ st ∷ jr ∷ jp ∷ br ∷ inv ∷ halt ∷ uw ∷ [])
+
+abbrev pub operation : Tuples
+operation = rows_with here sel (op ∷ alo ∷ ((num 1 ⊖ uw) ⊗ ahi) ∷ blo ∷ bhi ∷ clo ∷ chi ∷ flag ∷ [])
+
+abbrev pub access : Tuples
+access = rows_with here ms (kind ∷ off ∷ olo ∷ ohi ∷ slo ∷ shi ∷ mlo ∷ mhi ∷ [])
+
+-- its accesses: the reads of rs1 and rs2, the read and the write of memory, the write of rd
+abbrev pub accesses : List Tuples
+accesses =
+    rows_with here sel ((num 536870912 ⊕ rs1) ∷ (num 8 ⊗ STEP ⊕ num 1) ∷ num 0 ∷ alo ∷ ahi ∷ []) ∷
+    rows_with here sel ((num 536870912 ⊕ rs2) ∷ (num 8 ⊗ STEP ⊕ num 2) ∷ num 0 ∷ slo ∷ shi ∷ []) ∷
+    rows_with here ms (w ∷ (num 8 ⊗ STEP ⊕ num 3) ∷ num 0 ∷ olo ∷ ohi ∷ []) ∷
+    rows_with here (sel ⊗ st) (w ∷ (num 8 ⊗ STEP ⊕ num 4) ∷ num 1 ∷ mlo ∷ mhi ∷ []) ∷
+    rows_with here (sel ⊗ wr) ((num 536870912 ⊕ rd) ∷ (num 8 ⊗ STEP ⊕ num 5) ∷ num 1 ∷ vlo ∷ vhi ∷ []) ∷ []
+
 abbrev pub items : List Line
 items =
     constant (codes "STEP") None ∷
@@ -235,49 +264,24 @@ items =
     inter (codes "tk") (flag ⊕ inv ⊖ num 2 ⊗ flag ⊗ inv) ∷
     inter (codes "nx") (pc ⊕ num 4 ⊕ (jp ⊕ br ⊗ tk) ⊗ (jt ⊖ pc ⊖ num 4) ⊕ jr ⊗ (clo ⊖ bit ⊖ pc ⊖ num 4)) ∷
     inter (codes "go") (sel ⊗ (num 1 ⊖ halt)) ∷
-    lookup (rows here (sel ∷ [])) BIT ∷    -- 1
-    is_zero (L0 ⊗ (sel ⊖ num 1)) ∷    -- 2
-    is_zero (L0 ⊗ (pc ⊖ ENTRY)) ∷    -- 3
-    is_zero ((num 1 ⊖ LAST) ⊗ (next sel ⊖ go)) ∷    -- 4
-    is_zero ((num 1 ⊖ LAST) ⊗ go ⊗ (next pc ⊖ nx)) ∷    -- 5
-    is_zero (LEND ⊗ go) ∷    -- 6
-    bus (rows_with here CLAST ((INST ⊕ num 1) ∷ go ∷ (go ⊗ nx) ∷ []) ∷ [])
-        (rows_with here CFIRST (INST ∷ sel ∷ (sel ⊗ pc) ∷ []) ∷ []) ∷    -- 7
-    lookup
-        (rows_with here sel
-            (pc ∷ rs1 ∷ rs2 ∷ rd ∷ op ∷ ilo ∷ ihi ∷ klo ∷ khi ∷ jt ∷ kind ∷
-            bi ∷ wr ∷ ld ∷ st ∷ jr ∷ jp ∷ br ∷ inv ∷ halt ∷ uw ∷ []))
-        (rows_with Rom.here Rom.SEL
-            (Rom.PC ∷ Rom.RS1 ∷ Rom.RS2 ∷ Rom.RD ∷ Rom.OP ∷ Rom.ILO ∷ Rom.IHI ∷ Rom.KLO ∷ Rom.KHI ∷ Rom.JT ∷ Rom.KIND ∷
-            Rom.BI ∷ Rom.WR ∷ Rom.LD ∷ Rom.ST ∷ Rom.JR ∷ Rom.JP ∷ Rom.BR ∷ Rom.INV ∷ Rom.HALT ∷ Rom.UW ∷ [])) ∷    -- 8
-    is_zero (sel ⊗ halt ⊗ (alo ⊖ num 93)) ∷    -- 9
-    is_zero (sel ⊗ halt ⊗ ahi) ∷    -- 10
-    is_zero (sel ⊗ jr ⊗ chi) ∷    -- 11
-    lookup (rows_with here (sel ⊗ jr) (bit ∷ [])) BIT ∷    -- 12
-    is_zero (ms ⊗ chi) ∷    -- 13
-    is_zero (ms ⊗ (clo ⊖ num 8 ⊗ w ⊖ off)) ∷    -- 14
-    each here ms (wl ∷ wh ∷ (num 8 ⊗ wh) ∷ []) R16 ++    -- 15 to 17
-    bus
-        (rows_with here sel (op ∷ alo ∷ ((num 1 ⊖ uw) ⊗ ahi) ∷ blo ∷ bhi ∷ clo ∷ chi ∷ flag ∷ []) ∷ [])
-        (rows_with Binary.here Binary.sel
-            (Binary.op ∷ Binary.alo ∷ Binary.ahi ∷ Binary.blo ∷ Binary.bhi ∷ Binary.clo ∷ Binary.chi ∷ Binary.flag ∷ []) ∷
-        rows_with Shift.here Shift.sel
-            (Shift.op ∷ Shift.alo ∷ Shift.ahi ∷ Shift.blo ∷ Shift.bhi ∷ Shift.clo ∷ Shift.chi ∷ num 0 ∷ []) ∷
-        rows_with Arith.here Arith.sel
-            (Arith.op ∷ Arith.alo ∷ Arith.ahi ∷ Arith.blo ∷ Arith.bhi ∷ Arith.clo ∷ Arith.chi ∷ num 0 ∷ []) ∷ []) ∷    -- 18
-    bus
-        (rows_with here ms (kind ∷ off ∷ olo ∷ ohi ∷ slo ∷ shi ∷ mlo ∷ mhi ∷ []) ∷ [])
-        (rows_with Align.here Align.sel
-            (Align.kind ∷ Align.off ∷ Align.olo ∷ Align.ohi ∷ Align.vlo ∷ Align.vhi ∷ Align.mlo ∷ Align.mhi ∷ []) ∷ []) ∷    -- 19
-    bus
-        (rows_with here sel ((num 536870912 ⊕ rs1) ∷ (num 8 ⊗ STEP ⊕ num 1) ∷ num 0 ∷ alo ∷ ahi ∷ []) ∷
-        rows_with here sel ((num 536870912 ⊕ rs2) ∷ (num 8 ⊗ STEP ⊕ num 2) ∷ num 0 ∷ slo ∷ shi ∷ []) ∷
-        rows_with here ms (w ∷ (num 8 ⊗ STEP ⊕ num 3) ∷ num 0 ∷ olo ∷ ohi ∷ []) ∷
-        rows_with here (sel ⊗ st) (w ∷ (num 8 ⊗ STEP ⊕ num 4) ∷ num 1 ∷ mlo ∷ mhi ∷ []) ∷
-        rows_with here (sel ⊗ wr) ((num 536870912 ⊕ rd) ∷ (num 8 ⊗ STEP ⊕ num 5) ∷ num 1 ∷ vlo ∷ vhi ∷ []) ∷
-        rows_with Init.here Init.SEL (Init.KEY ∷ num 0 ∷ num 1 ∷ Init.LO ∷ Init.HI ∷ []) ∷
-        rows_with Out.here Out.SEL (Out.KEY ∷ num 34359738368 ∷ num 0 ∷ Out.lo ∷ Out.hi ∷ []) ∷ [])
-        (rows_with Mem.here Mem.sel (Mem.key ∷ Mem.time ∷ Mem.wr ∷ Mem.lo ∷ Mem.hi ∷ []) ∷ []) ∷ []    -- 20
+    lookup (rows here (sel ∷ [])) BIT ∷  -- 1
+    is_zero (L0 ⊗ (sel ⊖ num 1)) ∷  -- 2
+    is_zero (L0 ⊗ (pc ⊖ ENTRY)) ∷  -- 3
+    is_zero ((num 1 ⊖ LAST) ⊗ (next sel ⊖ go)) ∷  -- 4
+    is_zero ((num 1 ⊖ LAST) ⊗ go ⊗ (next pc ⊖ nx)) ∷  -- 5
+    is_zero (LEND ⊗ go) ∷  -- 6
+    bus (leaves ∷ []) (enters ∷ []) ∷  -- 7
+    lookup instruction Rom.instruction ∷  -- 8
+    is_zero (sel ⊗ halt ⊗ (alo ⊖ num 93)) ∷  -- 9
+    is_zero (sel ⊗ halt ⊗ ahi) ∷  -- 10
+    is_zero (sel ⊗ jr ⊗ chi) ∷  -- 11
+    lookup (rows_with here (sel ⊗ jr) (bit ∷ [])) BIT ∷  -- 12
+    is_zero (ms ⊗ chi) ∷  -- 13
+    is_zero (ms ⊗ (clo ⊖ num 8 ⊗ w ⊖ off)) ∷  -- 14
+    each here ms (wl ∷ wh ∷ (num 8 ⊗ wh) ∷ []) R16 ++  -- 15 to 17
+    bus (operation ∷ []) (Binary.operation ∷ Shift.operation ∷ Arith.operation ∷ []) ∷  -- 18
+    bus (access ∷ []) (Align.access ∷ []) ∷  -- 19
+    bus (accesses ++ Init.writes ∷ Out.reads ∷ []) (Mem.access ∷ []) ∷ []  -- 20
 
 abbrev pub space : ℕ → Namespace
 space n = record { name = codes "Main"; rows = n; items = items }

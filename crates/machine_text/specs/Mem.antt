@@ -1,6 +1,6 @@
 -- The namespace Mem: a row is an access of memory or of a register, in order of its key and time.
 use Rattle.std.specs.Prelude.{ℕ, ◌+◌, false, List, [], ◌∷◌, ◌++◌, Some, None, codes}
-use Rattle.pil_ast.specs.Term.{Term, num, col, mid, ◌⊕◌, ◌⊖◌, ◌⊗◌, Line, constant, commit, inter, identity, lookup, bus, Namespace}
+use Rattle.pil_ast.specs.Term.{Term, num, col, mid, ◌⊕◌, ◌⊖◌, ◌⊗◌, Tuples, Line, constant, commit, inter, identity, lookup, bus, Namespace}
 use Rattle.machine_text.specs.Words.{K, next, all, rows, rows_with, R16, each, BIT}
 
 abbrev pub here : ℕ
@@ -69,6 +69,17 @@ gap = mid here 18 false
 abbrev pub on : Term
 on = mid here 19 false
 
+-- the access of a row: key, time, whether it writes, the limbs of the value
+abbrev pub access : Tuples
+access = rows_with here sel (key ∷ time ∷ wr ∷ lo ∷ hi ∷ [])
+
+-- the last row of an instance and what the next instance has as the row before its first
+abbrev last_row : Tuples
+last_row = rows_with here CLAST ((INST ⊕ num 1) ∷ sel ∷ key ∷ time ∷ lo ∷ hi ∷ [])
+
+abbrev row_before : Tuples
+row_before = rows_with here CFIRST (INST ∷ psel ∷ pkey ∷ ptime ∷ plo ∷ phi ∷ [])
+
 abbrev pub items : List Line
 items =
     constant (codes "INST") None ∷
@@ -91,22 +102,21 @@ items =
     commit (codes "phi") None ∷
     inter (codes "gap") (g 0 ⊕ num 65536 ⊗ g 1 ⊕ K ⊗ g 2) ∷
     inter (codes "on") (sel ⊗ (num 1 ⊖ L0)) ∷
-    lookup (rows here (sel ∷ [])) BIT ∷    -- 21
-    lookup (rows_with here sel (same ∷ [])) BIT ∷    -- 22
-    is_zero ((num 1 ⊖ LAST) ⊗ (next psel ⊖ sel)) ∷    -- 23
-    is_zero ((num 1 ⊖ LAST) ⊗ (next pkey ⊖ key)) ∷    -- 24
-    is_zero ((num 1 ⊖ LAST) ⊗ (next ptime ⊖ time)) ∷    -- 25
-    is_zero ((num 1 ⊖ LAST) ⊗ (next plo ⊖ lo)) ∷    -- 26
-    is_zero ((num 1 ⊖ LAST) ⊗ (next phi ⊖ hi)) ∷    -- 27
-    bus (rows_with here CLAST ((INST ⊕ num 1) ∷ sel ∷ key ∷ time ∷ lo ∷ hi ∷ []) ∷ [])
-        (rows_with here CFIRST (INST ∷ psel ∷ pkey ∷ ptime ∷ plo ∷ phi ∷ []) ∷ []) ∷    -- 28
-    is_zero (on ⊗ (num 1 ⊖ psel)) ∷    -- 29
-    is_zero (L0 ⊗ sel ⊗ same) ∷    -- 30
-    is_zero (on ⊗ same ⊗ (key ⊖ pkey)) ∷    -- 31
-    is_zero (on ⊗ (gap ⊖ same ⊗ (time ⊖ ptime ⊖ num 1) ⊖ (num 1 ⊖ same) ⊗ (key ⊖ pkey ⊖ num 1))) ∷    -- 32
-    is_zero (sel ⊗ (num 1 ⊖ wr) ⊗ (lo ⊖ same ⊗ plo)) ∷    -- 33
-    is_zero (sel ⊗ (num 1 ⊖ wr) ⊗ (hi ⊖ same ⊗ phi)) ∷    -- 34
-    each here sel (all 3 g) R16 ++ []    -- 35 to 37
+    lookup (rows here (sel ∷ [])) BIT ∷  -- 21
+    lookup (rows_with here sel (same ∷ [])) BIT ∷  -- 22
+    is_zero ((num 1 ⊖ LAST) ⊗ (next psel ⊖ sel)) ∷  -- 23
+    is_zero ((num 1 ⊖ LAST) ⊗ (next pkey ⊖ key)) ∷  -- 24
+    is_zero ((num 1 ⊖ LAST) ⊗ (next ptime ⊖ time)) ∷  -- 25
+    is_zero ((num 1 ⊖ LAST) ⊗ (next plo ⊖ lo)) ∷  -- 26
+    is_zero ((num 1 ⊖ LAST) ⊗ (next phi ⊖ hi)) ∷  -- 27
+    bus (last_row ∷ []) (row_before ∷ []) ∷  -- 28
+    is_zero (on ⊗ (num 1 ⊖ psel)) ∷  -- 29
+    is_zero (L0 ⊗ sel ⊗ same) ∷  -- 30
+    is_zero (on ⊗ same ⊗ (key ⊖ pkey)) ∷  -- 31
+    is_zero (on ⊗ (gap ⊖ same ⊗ (time ⊖ ptime ⊖ num 1) ⊖ (num 1 ⊖ same) ⊗ (key ⊖ pkey ⊖ num 1))) ∷  -- 32
+    is_zero (sel ⊗ (num 1 ⊖ wr) ⊗ (lo ⊖ same ⊗ plo)) ∷  -- 33
+    is_zero (sel ⊗ (num 1 ⊖ wr) ⊗ (hi ⊖ same ⊗ phi)) ∷  -- 34
+    each here sel (all 3 g) R16 ++ []  -- 35 to 37
 
 abbrev pub space : Namespace
 space = record { name = codes "Mem"; rows = 8192; items = items }

@@ -1,6 +1,7 @@
 -- The namespace Out: the exit code and the output window as they stand at the end.
 use Rattle.std.specs.Prelude.{ℕ, false, List, [], ◌∷◌, None, codes}
-use Rattle.pil_ast.specs.Term.{Term, col, Line, constant, commit, published, Namespace}
+use Rattle.pil_ast.specs.Term.{Term, num, col, Tuples, Line, constant, commit, published, Namespace}
+use Rattle.machine_text.specs.Words.{rows_with}
 
 abbrev pub here : ℕ
 here = 8
@@ -16,6 +17,10 @@ lo = col here 2 false
 
 abbrev pub hi : Term
 hi = col here 3 false
+
+-- the reads at the end, at time 2^35
+abbrev pub reads : Tuples
+reads = rows_with here SEL (KEY ∷ num 34359738368 ∷ num 0 ∷ lo ∷ hi ∷ [])
 
 abbrev pub items : List Line
 items =

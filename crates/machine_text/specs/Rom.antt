@@ -1,6 +1,7 @@
 -- The namespace Rom: the decoded instructions of the program.
 use Rattle.std.specs.Prelude.{ℕ, false, List, [], ◌∷◌, None, codes}
-use Rattle.pil_ast.specs.Term.{Term, col, Line, constant, Namespace}
+use Rattle.pil_ast.specs.Term.{Term, col, Tuples, Line, constant, Namespace}
+use Rattle.machine_text.specs.Words.{rows_with}
 
 abbrev pub here : ℕ
 here = 4
@@ -70,6 +71,13 @@ HALT = col here 20 false
 
 abbrev pub UW : Term
 UW = col here 21 false
+
+-- a row as Main looks it up
+abbrev pub instruction : Tuples
+instruction =
+    rows_with here SEL
+    (PC ∷ RS1 ∷ RS2 ∷ RD ∷ OP ∷ ILO ∷ IHI ∷ KLO ∷ KHI ∷ JT ∷ KIND ∷
+    BI ∷ WR ∷ LD ∷ ST ∷ JR ∷ JP ∷ BR ∷ INV ∷ HALT ∷ UW ∷ [])
 
 abbrev pub items : List Line
 items =

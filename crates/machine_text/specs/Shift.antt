@@ -1,6 +1,6 @@
 -- The namespace Shift: a row is a shift.
 use Rattle.std.specs.Prelude.{ℕ, ◌+◌, false, List, [], ◌∷◌, ◌++◌, Some, None, codes}
-use Rattle.pil_ast.specs.Term.{Term, num, col, mid, ◌⊕◌, ◌⊖◌, ◌⊗◌, Line, commit, inter, identity, lookup, Namespace}
+use Rattle.pil_ast.specs.Term.{Term, num, col, mid, ◌⊕◌, ◌⊖◌, ◌⊗◌, Tuples, Line, commit, inter, identity, lookup, Namespace}
 use Rattle.machine_text.specs.Words.{M, lo2, hi2, all, rows, rows_with, BIT, R16, each}
 use Rattle.machine_text.specs.ShiftTab
 
@@ -112,6 +112,10 @@ clo = mid here 32 false
 abbrev pub chi : Term
 chi = mid here 33 false
 
+-- the operation of a row as Main sends it: its number, the limbs of a, of b and of the value, and the flag
+abbrev pub operation : Tuples
+operation = rows_with here sel (op ∷ alo ∷ ahi ∷ blo ∷ bhi ∷ clo ∷ chi ∷ num 0 ∷ [])
+
 abbrev pub items : List Line
 items =
     commit (codes "sel") None ∷
@@ -146,24 +150,20 @@ items =
     inter (codes "r1") (u 0 ⊗ d1 ⊕ (num 1 ⊖ rt) ⊗ u 1 ⊗ d0 ⊕ rt ⊗ (u 1 ⊗ d2 ⊕ u 2 ⊗ d3 ⊕ u 3 ⊗ x)) ∷
     inter (codes "r2") (u 0 ⊗ d2 ⊕ (num 1 ⊖ rt) ⊗ (u 1 ⊗ d1 ⊕ u 2 ⊗ d0) ⊕ rt ⊗ (u 1 ⊗ d3 ⊕ (u 2 ⊕ u 3) ⊗ x)) ∷
     inter (codes "r3") (u 0 ⊗ d3 ⊕ (num 1 ⊖ rt) ⊗ (u 1 ⊗ d2 ⊕ u 2 ⊗ d1 ⊕ u 3 ⊗ d0) ⊕ rt ⊗ (u 1 ⊕ u 2
-        ⊕ u 3) ⊗ x) ∷
+    ⊕ u 3) ⊗ x) ∷
     inter (codes "clo") (r0 ⊕ num 65536 ⊗ r1) ∷
     inter (codes "chi") ((num 1 ⊖ ww) ⊗ (r2 ⊕ num 65536 ⊗ r3) ⊕ ww ⊗ ws ⊗ M) ∷
-    lookup (rows here (sel ∷ [])) BIT ∷    -- 129
-    lookup
-        (rows_with here sel (op ∷ s ∷ rt ∷ ar ∷ ww ∷ u 0 ∷ u 1 ∷ u 2 ∷ u 3 ∷ m ∷ []))
-        (rows_with ShiftTab.here ShiftTab.SEL
-            (ShiftTab.OP ∷ ShiftTab.S ∷ ShiftTab.RT ∷ ShiftTab.AR ∷ ShiftTab.WW ∷
-            ShiftTab.U0 ∷ ShiftTab.U1 ∷ ShiftTab.U2 ∷ ShiftTab.U3 ∷ ShiftTab.M ∷ [])) ∷    -- 130
-    each here sel (all 4 a ++ all 2 t ++ ((num 64 ⊗ t 1) ∷ [])) R16 ++    -- 131 to 137
-    each here sel (sb ∷ ws ∷ []) BIT ++    -- 138 to 139
-    each here sel ((xr ∷ (num 2 ⊗ xr) ∷ rr ∷ (num 2 ⊗ rr) ∷ []) ++ all 4 h ++ all 4 l) R16 ++    -- 140 to 151
-    is_zero (sel ⊗ (ww ⊗ a 1 ⊕ (num 1 ⊖ ww) ⊗ a 3 ⊖ num 32768 ⊗ sb ⊖ xr)) ∷    -- 152
-    is_zero (sel ⊗ (a 0 ⊗ m ⊖ num 65536 ⊗ h 0 ⊖ l 0)) ∷    -- 153
-    is_zero (sel ⊗ (a 1 ⊗ m ⊖ num 65536 ⊗ h 1 ⊖ l 1)) ∷    -- 154
-    is_zero (sel ⊗ (e2 ⊗ m ⊖ num 65536 ⊗ h 2 ⊖ l 2)) ∷    -- 155
-    is_zero (sel ⊗ (e3 ⊗ m ⊖ num 65536 ⊗ h 3 ⊖ l 3)) ∷    -- 156
-    is_zero (sel ⊗ (r1 ⊖ num 32768 ⊗ ws ⊖ rr)) ∷ []    -- 157
+    lookup (rows here (sel ∷ [])) BIT ∷  -- 129
+    lookup (rows_with here sel (op ∷ s ∷ rt ∷ ar ∷ ww ∷ u 0 ∷ u 1 ∷ u 2 ∷ u 3 ∷ m ∷ [])) ShiftTab.shift ∷  -- 130
+    each here sel (all 4 a ++ all 2 t ++ ((num 64 ⊗ t 1) ∷ [])) R16 ++  -- 131 to 137
+    each here sel (sb ∷ ws ∷ []) BIT ++  -- 138 to 139
+    each here sel ((xr ∷ (num 2 ⊗ xr) ∷ rr ∷ (num 2 ⊗ rr) ∷ []) ++ all 4 h ++ all 4 l) R16 ++  -- 140 to 151
+    is_zero (sel ⊗ (ww ⊗ a 1 ⊕ (num 1 ⊖ ww) ⊗ a 3 ⊖ num 32768 ⊗ sb ⊖ xr)) ∷  -- 152
+    is_zero (sel ⊗ (a 0 ⊗ m ⊖ num 65536 ⊗ h 0 ⊖ l 0)) ∷  -- 153
+    is_zero (sel ⊗ (a 1 ⊗ m ⊖ num 65536 ⊗ h 1 ⊖ l 1)) ∷  -- 154
+    is_zero (sel ⊗ (e2 ⊗ m ⊖ num 65536 ⊗ h 2 ⊖ l 2)) ∷  -- 155
+    is_zero (sel ⊗ (e3 ⊗ m ⊖ num 65536 ⊗ h 3 ⊖ l 3)) ∷  -- 156
+    is_zero (sel ⊗ (r1 ⊖ num 32768 ⊗ ws ⊖ rr)) ∷ []  -- 157
 
 abbrev pub space : Namespace
 space = record { name = codes "Shift"; rows = 1024; items = items }

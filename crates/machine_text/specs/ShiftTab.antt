@@ -1,6 +1,7 @@
 -- The namespace ShiftTab: the six shifts by each amount.
 use Rattle.std.specs.Prelude.{ℕ, false, List, [], ◌∷◌, None, codes}
-use Rattle.pil_ast.specs.Term.{Term, col, Line, constant, Namespace}
+use Rattle.pil_ast.specs.Term.{Term, col, Tuples, Line, constant, Namespace}
+use Rattle.machine_text.specs.Words.{rows_with}
 
 abbrev pub here : ℕ
 here = 3
@@ -37,6 +38,10 @@ U3 = col here 9 false
 
 abbrev pub M : Term
 M = col here 10 false
+
+-- a row as Shift looks it up
+abbrev pub shift : Tuples
+shift = rows_with here SEL (OP ∷ S ∷ RT ∷ AR ∷ WW ∷ U0 ∷ U1 ∷ U2 ∷ U3 ∷ M ∷ [])
 
 abbrev pub items : List Line
 items =

@@ -26,7 +26,6 @@ e ⊞ [] = e
 e ⊞ (x ∷ xs) = (e ⊕ x) ⊞ xs
 
 infixl 60 ◌⊞◌
-
 -- the sum of these, from the left
 abbrev pub total : List Term → Term
 total [] = num 0

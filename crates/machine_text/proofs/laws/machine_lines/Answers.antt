@@ -1,7 +1,6 @@
 use Rattle.std.proofs.Common.{refl}
 use Rattle.machine_text.specs.Lines.{names_no_public, looks_in_table}
 use Rattle.machine_text.specs.Machine.{machine}
-use Rattle.machine_text.specs.declared.profile.Profile.TheVariants.{Small, Wide}
 use Rattle.machine_text.proofs.Items.{at_each}
 use Rattle.machine_text.proofs.laws.machine_lines.Goals as goal
 
