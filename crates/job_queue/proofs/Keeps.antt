@@ -1,5 +1,5 @@
 -- Each step keeps the rule of the queue.
-use Rattle.std.proofs.Common.{◌≡◌, ◌≢◌, ℕ, zero, suc, ◌+◌, ◌-◌, ◌<◌, inl, inr, ⊎_elim, List, [], ◌∷◌, ◌++◌, length, set, refl, sym, ap, subst, ◌∙◌, arith}
+use Rattle.std.proofs.Common.{◌≡◌, ◌≢◌, ℕ, zero, suc, ◌+◌, ◌<◌, inl, inr, ⊎_elim, List, [], ◌∷◌, ◌++◌, length, set, refl, sym, ap, subst, ◌∙◌, arith}
 use Rattle.std.specs.Prelude.{All, sum_by}
 use Rattle.std.specs.List.{flat_map}
 use Rattle.std.proofs.lemmas.List.Elements.{All-nil, All-cons, All-head, All-tail, All-set, All-push, All-append}
@@ -64,15 +64,15 @@ begins =
     let fits = All-cons (Fits no_image 1) blank [] (inr (record { share = omega arith; names = refl; counts = refl; took = All-nil (IsTrueOf no_image) })) (All-nil (Fits no_image 1)) in
     kept no_image 1 [] (blank ∷ []) fits refl (All-nil (IsTrueOf no_image)) (λ h. refl)
 
-pub puts : (image : Img) (n port : ℕ) (v : View) (t : Ticket) → 0 < v.shares → v.image ≡ image → IsTrueOf image t → Pushes IsKept n port v t (λ w. w ≡ with_pushed v t)
-puts image n port v t has_one names is items views room k at =
+pub puts : (n port : ℕ) (v : View) (t : Ticket) → 0 < v.shares → IsTrueOf v.image t → Pushes IsKept n port v t (λ w. w ≡ with_pushed v t)
+puts n port v t has_one is items views room k at =
     let w = with_pushed v t in
     let l = mine items views port v k at has_one in (
       w,
       kept k.image k.all (items ++ t ∷ []) (set views port w)
           (All-set (Fits k.image k.all) views port w (inr (record { share = l.share; names = l.names; counts = l.counts; took = l.took })) k.passes)
           (let s = total-set share views port v w at in let a = k.shares in omega arith)
-          (All-push (IsTrueOf k.image) items t k.queued (subst (λ i. IsTrueOf i t) (sym names ∙ l.names) is))
+          (All-push (IsTrueOf k.image) items t k.queued (subst (λ i. IsTrueOf i t) l.names is))
           (λ h.
           let p = total-set (pushed h) views port v w at in
           let q = total-set (taken h) views port v w at in

@@ -4,6 +4,7 @@
 
 mod queue;
 mod rule;
+mod steps;
 mod ticket;
 
 pub use queue::{Full, JobQueue, PassBack};

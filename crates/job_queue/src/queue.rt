@@ -8,14 +8,12 @@ ghost use Rattle.job_queue.specs.Rule.{blank, whole, less_one, one_of, joined, w
 ghost use Rattle.job_queue.specs.Calls.{IsOf, HasAll, image_of, shares_of, capacity_of};
 
 use crate::Ticket;
-use crate::rule::{Begin, Pass, Purpose, Pushes, Share, Takes, Truth, View};
-use crossbeam_queue::RuledArrayQueue;
+use crate::rule::{Pass, Share};
+use crate::steps::{Line, begin, pop, push};
 use rv_model::Image;
 use std::alloc::{AllocError, Global};
 use std::marker::Brand;
 use std::sync::{Arc, Wait};
-
-type Line = RuledArrayQueue<Ticket, View, Truth>;
 
 /// A bounded queue, first in, first out, for the jobs of one image's run.
 #[derive(Drop)]
@@ -32,17 +30,6 @@ pub struct Full(pub Ticket);
 /// The pass that wasn't split.
 #[derive(Drop)]
 pub struct PassBack(pub Pass);
-
-// Names the image and the shares.
-fn begin<U: Purpose>(line: &Line, pass: &mut Pass, image: &Image, shares: u32)
-    requires queue { IsPassOf line.now pass.old }
-    requires blank { view pass.old ≡ blank }
-    requires purpose { (U.image ≡ image.now) × (U.shares ≡ shares) × (1 ≤ shares) }
-    ensures queue { IsPassOf line.now pass.new }
-    ensures view { view pass.new ≡ whole image.now shares }
-{
-    let _spent = line.another::<Begin<U>>(pass);
-}
 
 impl JobQueue {
     /// An empty queue for the jobs of this image, and its one pass, which has all shares.
@@ -81,8 +68,7 @@ impl JobQueue {
         ensures full_for_all { OnErr result.1 (HasAll self.now pass → length (view pass).pushed ≡ length (view pass).taken + capacity_of self.now) }
     {
         let mut pass = pass;
-        let answer = self.line.push_as::<Pushes, R>(rt, &mut pass, ticket);
-        match answer {
+        match push(&self.line, rt, &mut pass, ticket) {
             Ok(()) => (pass, Ok(())),
             Err(back) => (pass, Err(Full(back))),
         }
@@ -100,8 +86,8 @@ impl JobQueue {
         ensures empty_for_all { IfNone result.1 (HasAll self.now pass → HaveSameTickets (view pass).pushed (view pass).taken) }
     {
         let mut pass = pass;
-        let answer = self.line.pop_as::<Takes, R>(rt, &mut pass);
-        (pass, answer)
+        let taken = pop(&self.line, rt, &mut pass);
+        (pass, taken)
     }
 
     /// A pass of its own for one of the shares. It is never refused.
