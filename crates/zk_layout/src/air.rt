@@ -12,7 +12,8 @@ pub enum Air {
     Main,
     /// A row is an access to memory or to a register.
     Mem,
-    /// A row is the operation of a step: a sum, difference, comparison or bitwise operation.
+    /// A row is the operation of a step: a sum, also with a shift, a difference, comparison, bitwise
+    /// operation or conditional zero.
     Binary,
     /// A row is the operation of a step: a shift.
     Shift,
@@ -136,7 +137,12 @@ impl Air {
             | OpNo::Or
             | OpNo::Xor
             | OpNo::Addw
-            | OpNo::Subw => Air::Binary,
+            | OpNo::Subw
+            | OpNo::Sh1add
+            | OpNo::Sh2add
+            | OpNo::Sh3add
+            | OpNo::Czeqz
+            | OpNo::Cznez => Air::Binary,
             OpNo::Sll | OpNo::Srl | OpNo::Sra | OpNo::Sllw | OpNo::Srlw | OpNo::Sraw => Air::Shift,
             OpNo::Mul
             | OpNo::Mulh
