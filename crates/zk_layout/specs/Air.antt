@@ -82,6 +82,10 @@ machine_airs = map air_shape airs
 abbrev pub machine_shape_of : Form → Shape
 machine_shape_of form = record { airs = machine_airs; form = form }
 
--- operations 1 to 10 are Binary's, 11 to 16 Shift's, 17 to 29 Arith's, 30 to 34 Binary's
+-- operations 1 to 10 and 30 to 34 are Binary's, 11 to 16 Shift's, 17 to 29 Arith's
 unfoldable pub air_of : OpNo → Air
-air_of op = if nat_le (op_number op) 10 then Binary else if nat_le (op_number op) 16 then Shift else if nat_le (op_number op) 29 then Arith else Binary
+air_of op =
+    if nat_le (op_number op) 10 then Binary
+    else if nat_le (op_number op) 16 then Shift
+    else if nat_le (op_number op) 29 then Arith
+    else Binary

@@ -12,7 +12,8 @@ pub enum Air {
     Main,
     /// A row is an access to memory or to a register.
     Mem,
-    /// A row is the operation of a step: a sum, difference, comparison or bitwise operation.
+    /// A row is the operation of a step: a sum, also with a shift, a difference, comparison, bitwise
+    /// operation or conditional zero.
     Binary,
     /// A row is the operation of a step: a shift.
     Shift,

@@ -58,6 +58,8 @@ fn air_of_an_operation(rt: HostRuntime) {
         (OpNo::Sraw, Air::Shift),
         (OpNo::Mul, Air::Arith),
         (OpNo::Remuw, Air::Arith),
+        (OpNo::Sh1add, Air::Binary),
+        (OpNo::Cznez, Air::Binary),
     ];
     for (op, air) in operations {
         assert_eq!(rt; Air::of_operation(op), air);

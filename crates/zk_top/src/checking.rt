@@ -47,8 +47,8 @@ fn constraints_of(alloc: Global, text: &[u8]) -> Result<Pil, Status>
 
 // The tables of a file, which have the shape.
 fn tables_of(alloc: Global, file: Vec<u8>, shape: &Shape) -> Result<Witness, Status>
-    ensures only { IfOk result (λ witness. IsOnlyTables file.items shape.now witness.tables) }
-    ensures shaped { IfOk result (λ witness. HaveShape shape.now witness.tables) }
+    ensures only { IfOk result (λ witness. IsOnlyTables file.items shape.now witness) }
+    ensures shaped { IfOk result (λ witness. HaveShape shape.now witness) }
     ensures refused { IfErr result (IsTablesRefusal file.items shape.now) }
 {
     reads_or_fails();
