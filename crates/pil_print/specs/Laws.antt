@@ -1,5 +1,5 @@
 -- What is true of each printed text.
-use Rattle.std.specs.Prelude.{ℕ, ◌≡◌, ◌≤◌, ◌^◌, false, List, [], map, count_by, All, Ok}
+use Rattle.std.specs.Prelude.{◌≡◌, ◌≤◌, ◌^◌, false, List, [], map, count_by, All, Ok}
 use Rattle.pil_token.specs.declared.token.Placed.{Placed}
 use Rattle.pil_token.specs.Spelled.{IsToken}
 use Rattle.pil_token.specs.Tokens.{lexed}

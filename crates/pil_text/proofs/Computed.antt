@@ -1,5 +1,5 @@
 -- What is computed of a text is what it reads as.
-use Rattle.std.proofs.Common.{ℕ, ◌≡◌, List, [], ◌∷◌, Bool, true, false, cond, Result, Ok, Err, Some, None, refl, sym, subst, arith}
+use Rattle.std.proofs.Common.{ℕ, ◌≡◌, List, [], ◌∷◌, Bool, true, false, cond, Result, Ok, Err, Some, None, refl, sym, arith}
 use Rattle.pil_token.specs.declared.token.Placed.{Placed}
 use Rattle.pil_token.specs.declared.token.LexErr.{LexErr}
 use Rattle.pil_token.specs.Tokens.{lexed}
@@ -18,7 +18,7 @@ use Rattle.pil_meaning.specs.Meaning.{meaning}
 use Rattle.pil_meaning.specs.Marks.{double}
 use Rattle.pil_text.specs.Refusal.{IsClear, Means}
 use Rattle.pil_text.specs.Text.{Reads}
-use Rattle.pil_text.specs.Computed.{is_nil, all_ascend, is_right, of_statements, of_tokens, computed}
+use Rattle.pil_text.specs.Computed.{is_nil, is_right, of_statements, of_tokens, computed}
 use Rattle.pil_text.proofs.Ascending.{both, each_acyclic}
 use Rattle.pil_text.proofs.Order.{right}
 

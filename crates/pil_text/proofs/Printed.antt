@@ -1,5 +1,5 @@
 -- What a text reads as is sound, and its printed text is read as the same.
-use Rattle.std.proofs.Common.{ℕ, zero, suc, ◌≡◌, List, [], ◌∷◌, All, count_by, map, Ok, arith, refl, sym, ap, ◌∙◌, subst}
+use Rattle.std.proofs.Common.{ℕ, zero, suc, ◌≡◌, List, [], ◌∷◌, All, map, Ok, arith, refl, sym, subst}
 use Rattle.pil_token.specs.declared.token.Mark.{Mark}
 use Rattle.pil_token.specs.declared.token.Mark.TheVariants.{Percent, Equals, Semicolon, OpenParen, CloseParen, OpenBrace, CloseBrace, OpenBracket, CloseBracket, Comma, Dot, Prime, Plus, Minus, Star, Colon}
 use Rattle.pil_token.specs.declared.token.Token.{Token}
@@ -7,20 +7,19 @@ use Rattle.pil_token.specs.declared.token.Token.TheVariants as tokens
 use Rattle.pil_token.specs.declared.token.Placed.{Placed}
 use Rattle.pil_token.specs.Tokens.{lexed}
 use Rattle.pil_token.specs.Spelled.{IsToken}
-use Rattle.pil_syntax.specs.Tree.{Sentence}
-use Rattle.pil_syntax.specs.Spelling.{tokens_of, seen, kept}
+use Rattle.pil_syntax.specs.Spelling.{seen, kept}
 use Rattle.pil_ast.specs.Term.{Line, Namespace, space_at}
 use Rattle.pil_ast.specs.Sound.{IsAcyclic, IsSound}
 use Rattle.pil_ast.specs.Order.{NamesInside}
 use Rattle.pil_cycles.specs.Cycles.{IsOnCycle}
-use Rattle.pil_names.specs.Outline.{Outline, outline_of}
+use Rattle.pil_names.specs.Outline.{outline_of}
 use Rattle.pil_meaning.specs.Meaning.{meaning}
 use Rattle.pil_meaning.specs.Closed.{NamedIsClosed}
 use Rattle.pil_meaning.specs.Given.{TokensHaveNumbers, TokensHaveSigns, TextHasSigns}
 use Rattle.pil_meaning.specs.Soundness as sound
 use Rattle.pil_print.specs.Printed.{printed}
 use Rattle.pil_print.specs.Laws.{IsAccepted, IsReadBack, ReadsBack}
-use Rattle.pil_text.specs.Refusal.{IsClear, IsCyclic}
+use Rattle.pil_text.specs.Refusal.{IsClear}
 use Rattle.pil_text.specs.Text.{Reads, IsShort, Spells}
 use Rattle.pil_text.proofs.Order.{right, clear_of}
 use Rattle.pil_text.proofs.Whole.{short}
