@@ -56,6 +56,13 @@ impl JobQueue {
         ))
     }
 
+    /// The image whose jobs it holds.
+    pub fn image(&self) -> &Image
+        ensures { result.now ≡ image_of self.now }
+    {
+        &self.image
+    }
+
     /// Puts the ticket at the back. It comes back in `Full` only where the queue held its capacity at a moment of the call;
     /// where the pass has all shares, exactly then.
     pub fn push_as<R: Wait>(&self, rt: &R, pass: Pass, ticket: Ticket) -> (Pass, Result<(), Full>)
