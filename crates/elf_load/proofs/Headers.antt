@@ -1,5 +1,5 @@
 -- Headers by their index, and what a test of each of them finds.
-use Rattle.std.proofs.Common.{◌≡◌, ℕ, ◌+◌, ◌<◌, ◌≤◌, ◌^◌, ◌⊎◌, inl, inr, List, Bool, true, false, cond, not, ◌||◌, length, get_or, position, Some, None, refl, sym, ◌∙◌, ap, subst, arith, max}
+use Rattle.std.proofs.Common.{◌≡◌, ℕ, ◌+◌, ◌<◌, ◌≤◌, ◌⊎◌, inl, inr, List, Bool, true, false, cond, not, ◌||◌, length, get_or, position, Some, None, refl, sym, ◌∙◌, ap, subst, arith, max}
 use Rattle.std.proofs.lemmas.Bool.{ltb-false, lt-ltb, and_parts, and_from, ltb-true}
 use Rattle.std.proofs.lemmas.List.FromFn.{length-map-range_with_len, get_or-map-range_with_len}
 use Rattle.std.proofs.lemmas.List.Quantifiers.{position-Some}

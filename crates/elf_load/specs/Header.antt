@@ -1,5 +1,5 @@
 -- What a program header says (System V gABI, "Program Header").
-use Rattle.std.specs.Prelude.{◌==◌, ◌&&◌, ◌||◌, ℕ, ◌+◌, ◌%◌, ◌^◌, ◌<◌, ◌≤◌, ◌⊎◌, nat_lt, nat_le, Bool, IsTrue}
+use Rattle.std.specs.Prelude.{◌==◌, ◌&&◌, ◌||◌, ℕ, ◌+◌, ◌%◌, ◌<◌, ◌≤◌, ◌⊎◌, nat_lt, nat_le, Bool, IsTrue}
 use Rattle.rv_model.specs.declared.machine.TheConstants.{MEMORY_END, INPUT_START, INPUT_END, OUTPUT_START, OUTPUT_END}
 use Rattle.elf_load.specs.declared.header.ProgramHeader.{ProgramHeader}
 

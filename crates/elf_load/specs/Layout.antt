@@ -1,5 +1,5 @@
 -- Sharing an address as tests that compute; segments that lie where they may, and in order.
-use Rattle.std.specs.Prelude.{◌≡◌, ◌&&◌, ◌||◌, false, true, Bool, nat_lt, ℕ, ◌+◌, ◌^◌, ◌<◌, ◌≤◌, List, filter, slice_index_or, length}
+use Rattle.std.specs.Prelude.{◌≡◌, ◌&&◌, ◌||◌, false, true, Bool, nat_lt, ℕ, ◌+◌, ◌<◌, ◌≤◌, List, filter, slice_index_or, length}
 use Rattle.std.specs.List.Sorted.{IsPermutation, IsNonDecreasingBy}
 use Rattle.rv_model.specs.declared.machine.TheConstants.{INPUT_START, INPUT_LEN, OUTPUT_START, OUTPUT_LEN}
 use Rattle.elf_load.specs.Header.{has_memory, is_load, lacks_bytes, is_out_of_range}

@@ -1,5 +1,5 @@
 -- A step over doublewords is a step over bytes.
-use Rattle.std.proofs.Common.{◌≡◌, ◌==◌, ◌+◌, ◌*◌, ◌/◌, ◌%◌, ◌^◌, ◌<◌, ℕ, Bool, true, false, nat_lt, if◌then◌else◌, List, get_or, Option, Some, None, IfSome, refl, ap, sym, ◌∙◌, arith}
+use Rattle.std.proofs.Common.{◌≡◌, ◌==◌, ◌+◌, ◌*◌, ◌/◌, ◌%◌, ◌^◌, ◌<◌, ℕ, Bool, true, false, nat_lt, if◌then◌else◌, get_or, Option, Some, None, IfSome, refl, ap, sym, ◌∙◌, arith}
 use Rattle.std.proofs.Math.Path.{fun_ext}
 use Rattle.std.proofs.lemmas.Bool.{eqb-true}
 use Rattle.std.proofs.lemmas.Nat.{from_le_bytes-to_le_bytes_8}
@@ -12,7 +12,7 @@ use Rattle.rv_word.specs.Is.{decoded}
 use Rattle.rv_word.specs.Ranges.{InRange, IsLoadKind, IsStoreKind}
 use Rattle.rv_model.specs.Image.{Img, fetch}
 use Rattle.rv_model.specs.Align.{width, bytes, aligned}
-use Rattle.rv_model.specs.Bytes.{byte_at, half_at, word_at}
+use Rattle.rv_model.specs.Bytes.{byte_at}
 use Rattle.rv_model.specs.State.{State, Answer, Next, Halt, Fault, executed, executed_word, executed_fetch, step, with_reg, with_word, wrapped, load, store}
 use Rattle.rv_model.specs.Cpu.{cpu_of, memory_after}
 use Rattle.rv_model.specs.ByteMachine.{ByteState, ByteAnswer, number_at, extended, with_bytes, byte_executed, byte_executed_word, byte_executed_fetch, byte_step, beside, by_bytes, answer_by_bytes, HasDoublewords}
