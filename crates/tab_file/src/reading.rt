@@ -131,7 +131,7 @@ fn version(bytes: &[u8], form: Form) -> Result<(Profile, usize), TabErr>
 {
     match form {
         Form::Plain | Form::One => {
-            expect(bytes, 4, TWO as u64, TabKind::BadVersion, 0)?;
+            expect(bytes, 4, ONE as u64, TabKind::BadVersion, 0)?;
             Ok((Profile::Small, 8))
         }
         Form::Two => {
