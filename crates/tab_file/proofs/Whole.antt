@@ -1,5 +1,5 @@
 -- From the header to the last instance.
-use Rattle.std.proofs.Common.{◌≡◌, ◌≢◌, ℕ, ◌+◌, ◌*◌, ◌≤◌, ◌<◌, Bool, List, [], ◌++◌, length, refl, sym, ap, subst, ◌∙◌}
+use Rattle.std.proofs.Common.{◌≡◌, ◌≢◌, ℕ, ◌+◌, ◌*◌, ◌≤◌, ◌<◌, Bool, List, [], length, refl, sym, ap, subst, ◌∙◌}
 use Rattle.std.specs.Prelude.{None, Some}
 use Rattle.std.specs.Int.{w32}
 use Rattle.std.proofs.lemmas.Bool.{lt-ltb, le-ltb}
@@ -11,8 +11,8 @@ use Rattle.gold.specs.declared.shapes.Profile.{Profile}
 use Rattle.gold.specs.declared.shapes.Shape.{Shape}
 use Rattle.tab_file.specs.declared.fault.TabErr.{TabErr}
 use Rattle.tab_file.specs.declared.fault.TabKind.TheVariants.{Trailing}
-use Rattle.gold.specs.Shapes.{Place, is_machine, places_from}
-use Rattle.tab_file.specs.Items.{Item, failure, first_failure, count_items, places_items}
+use Rattle.gold.specs.Shapes.{is_machine, places_from}
+use Rattle.tab_file.specs.Items.{failure, first_failure, count_items, places_items}
 use Rattle.tab_file.specs.Reading.{numbers_from, front_items, front_end, promised_profile, promised_airs, promised_counts, body_items, items, TabFails}
 use Rattle.tab_file.specs.Steps.{Pass, Fail, out_of_memory, body_tables, promised, Leaves}
 

@@ -1,5 +1,5 @@
 //! The command `pil`.
-ghost use Rattle.std.specs.Prelude.{◌≡◌, ◌≢◌, ◌≤◌, ◌^◌, length, IfOk, IfErr, IsErrOf};
+ghost use Rattle.std.specs.Prelude.{◌≡◌, ◌≢◌, ◌≤◌, length, IfOk, IfErr, IsErrOf};
 ghost use Rattle.gold.specs.Shapes.{HaveShape};
 ghost use Rattle.pil_ast.specs.Tree.{namespaces};
 ghost use Rattle.pil_ast.specs.Columns.{Fits};
@@ -30,7 +30,7 @@ const TABLES_LIMIT: u64 = 1 << 48;
 
 // The constraints of a text.
 fn constraints_of(alloc: Global, text: &[u8]) -> Result<Pil, Status>
-    requires { length text.now ≤ 2 ^ 20 }
+    requires { length text.now ≤ TEXT_LIMIT }
     ensures only { IfOk result (λ pil. IsOnlyText text.now (namespaces pil)) }
     ensures sound { IfOk result (λ pil. IsSound (namespaces pil)) }
     ensures refused { IfErr result (IsTextRefusal text.now) }

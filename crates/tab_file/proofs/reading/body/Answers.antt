@@ -1,4 +1,4 @@
-use Rattle.std.proofs.Common.{◌≡◌, length, ◌∙◌, ap, sym, Some}
+use Rattle.std.proofs.Common.{length, ◌∙◌, ap, sym, Some}
 use Rattle.std.specs.Int.{w32}
 use Rattle.tab_file.specs.Reading.{numbers_from}
 use Rattle.tab_file.proofs.Going.{IfErr-passed, length-numbers_from}

@@ -1,9 +1,7 @@
 use Rattle.std.proofs.Common.{All, sym, subst}
 use Rattle.gold.specs.Shapes.{counts_from}
 use Rattle.gold.specs.declared.shapes.Form.TheVariants.{Two}
-use Rattle.zk_layout.specs.Air.{machine_shape_of}
 use Rattle.tab_file.specs.Format.{header}
-use Rattle.tab_file.specs.Reading.{TabReads}
 use Rattle.tab_file.proofs.Heights.{IsSmall, tables_small, counts_small, texts_more, texts_all}
 use Rattle.tab_file.proofs.writing.write.Goals as goal
 

@@ -1,5 +1,5 @@
 use Rattle.zk_top.proofs.Verdicts.{some_outcome, one_outcome}
-use Rattle.zk_top.proofs.laws.one_pil_outcome.Goals as goal
+use Rattle.zk_top.proofs.laws.one_pil.Goals as goal
 
 pub returns-clause-some : goal.returns-clause-some
 returns-clause-some c = some_outcome c.one_verdict.ensures.some c.reads_or_fails.ensures.one c.one_answer.ensures.decided
