@@ -1,8 +1,8 @@
 -- The machine's namespaces, and how many rows Main has.
 use Rattle.std.specs.Prelude.{ℕ, List, [], ◌∷◌, codes}
 use Rattle.pil_ast.specs.Term.{Namespace}
-use Rattle.machine_text.specs.declared.profile.Profile.{Profile}
-use Rattle.machine_text.specs.declared.profile.Profile.TheVariants.{Small, Wide}
+use Rattle.gold.specs.declared.shapes.Profile.{Profile}
+use Rattle.gold.specs.declared.shapes.Profile.TheVariants.{Small, Wide}
 use Rattle.machine_text.specs.Bit
 use Rattle.machine_text.specs.Range16
 use Rattle.machine_text.specs.BinTab

@@ -1,7 +1,7 @@
 //! What the lines of the constraints are, as far as it can be computed.
 ghost use Rattle.std.specs.Prelude.{◌≡◌, ℕ, true};
 ghost use Rattle.pil_ast.specs.Term.{item_at, space_at};
-ghost use Rattle.machine_text.specs.declared.profile.Profile.{Profile as ProfileOf};
+ghost use Rattle.gold.specs.declared.shapes.Profile.{Profile as ProfileOf};
 ghost use Rattle.machine_text.specs.Lines.{HasLines, lines_before, looks_in_table, names_no_public};
 ghost use Rattle.machine_text.specs.Machine.{machine};
 ghost use Rattle.machine_text.specs.Main;

@@ -4,11 +4,9 @@
 #![tactic(auto)]
 
 mod laws;
-mod profile;
 mod source;
 
 pub use laws::machine_lines;
-pub use profile::Profile;
 pub use source::{machine, text};
 
 #[cfg(test)]

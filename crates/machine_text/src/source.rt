@@ -5,9 +5,9 @@ ghost use Rattle.pil_ast.specs.Tree.{namespaces};
 ghost use Rattle.pil_text.specs.Computed.{computed};
 ghost use Rattle.pil_text.specs.Text.{IsShort, Reads};
 ghost use Rattle.machine_text.specs.Machine.{machine, main_digits};
-ghost use Rattle.machine_text.specs.declared.profile.Profile.{Profile as ProfileOf};
+ghost use Rattle.gold.specs.declared.shapes.Profile.{Profile as ProfileOf};
 
-use crate::Profile;
+use gold::Profile;
 use pil_ast::Pil;
 use pil_text::{computed_reads, read};
 use std::alloc::{AllocError, Global};

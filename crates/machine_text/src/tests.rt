@@ -1,5 +1,6 @@
 //! The text and its tree, once for each profile.
-use crate::{Profile, machine, machine_lines, text};
+use crate::{machine, machine_lines, text};
+use gold::Profile;
 use pil_ast::{Item, Pil};
 use std::test::Fail;
 

@@ -1,7 +1,7 @@
 use Rattle.std.proofs.Common.{refl, arith}
 use Rattle.pil_token.specs.Tokens.{begins}
 use Rattle.pil_token.specs.Spelling.{word_of, mark_of}
-use Rattle.machine_text.specs.declared.profile.Profile.TheVariants.{Small, Wide}
+use Rattle.gold.specs.declared.shapes.Profile.TheVariants.{Small, Wide}
 use Rattle.machine_text.proofs.source.parts.Goals as goal
 
 pub returns-clause-computed : goal.returns-clause-computed
