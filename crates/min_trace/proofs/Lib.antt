@@ -2,3 +2,8 @@ pub mod Steps
 pub mod Onward
 pub mod Completes
 pub mod Facts
+pub mod After
+pub mod Pieces
+pub mod Bounds
+pub mod Values
+pub mod Beginning

@@ -7,6 +7,7 @@ use Rattle.rv_word.specs.declared.instr.Instr.TheVariants.{Lui, Auipc, Jal, Jalr
 use Rattle.rv_model.specs.Align.{width, aligned}
 use Rattle.rv_model.specs.State.{Answer, Next, Halt, Fault, executed, load, store, next_with_reg, with_word}
 use Rattle.rv_model.specs.Cpu.{with_memory, constant, forgot, told, Touches, memory_after}
+use Rattle.rv_model.specs.declared.machine.TheConstants.{MEMORY_END}
 use Rattle.rv_model.specs.declared.answer.StepAnswer.{StepAnswer}
 use Rattle.rv_model.specs.declared.answer.StepAnswer.TheVariants as answers
 use Rattle.rv_model.specs.declared.cpu.Cpu.{Cpu}
@@ -37,12 +38,12 @@ under_both true true p q r s h = h refl refl
 under_both true false p q r s h = refl
 under_both false d p q r s h = refl
 
-load_apart : (kind : Kind) (rd address old : ℕ) (c : Cpu) (word : ℕ → ℕ) → ((address % width kind ≡ 0) × (address < 2 ^ 32) → word (address / 8) ≡ old) → load (with_memory c word) kind rd address ≡ remembered (load (constant c old) kind rd address) word
+load_apart : (kind : Kind) (rd address old : ℕ) (c : Cpu) (word : ℕ → ℕ) → ((address % width kind ≡ 0) × (address < MEMORY_END) → word (address / 8) ≡ old) → load (with_memory c word) kind rd address ≡ remembered (load (constant c old) kind rd address) word
 unfolding load
 load_apart kind rd address old c word h =
-    simp remembered-if (under_both (address % width kind == 0) (nat_lt address (2 ^ 32)) _ _ _ _ λ p q.
+    simp remembered-if (under_both (address % width kind == 0) (nat_lt address MEMORY_END) _ _ _ _ λ p q.
     let multiple : address % width kind ≡ 0 = grind (arith, nat_tests) in
-    let below : address < 2 ^ 32 = grind (arith, nat_tests) in
+    let below : address < MEMORY_END = grind (arith, nat_tests) in
     ap (λ n. next_with_reg (with_memory c word) rd (aligned kind (address % 8) n 0)) (h (multiple, below)))
 
 store_apart : (kind : Kind) (address value old : ℕ) (c : Cpu) (word : ℕ → ℕ) → store (with_memory c word) kind address value ≡ remembered (store (constant c old) kind address value) (with_word word (address / 8) (aligned kind (address % 8) (word (address / 8)) value))
@@ -57,8 +58,8 @@ executed_apart (Jalr rd rs1 imm) c old word h = simp remembered-if
 executed_apart (Branch cond rs1 rs2 imm) c old word h = simp remembered-if
 executed_apart (Load kind rd rs1 imm) c old word h = load_apart kind rd _ old c word h
 executed_apart (Store kind rs1 rs2 imm) c old word h = store_apart kind _ _ old c word
-executed_apart (OpImm op rd rs1 imm) c old word h = refl
-executed_apart (Op op rd rs1 rs2) c old word h = refl
+executed_apart (OpImm op rd rs1 imm uw) c old word h = refl
+executed_apart (Op op rd rs1 rs2 uw) c old word h = refl
 executed_apart Fence c old word h = refl
 executed_apart Ecall c old word h = simp remembered-if
 executed_apart Ebreak c old word h = refl

@@ -13,6 +13,7 @@ use Rattle.rv_model.specs.Cpu.{with_memory, told, access, is_store, IsGood, Touc
 use Rattle.rv_model.specs.Plain.{Plain, word_of, state_of, Leads}
 use Rattle.rv_model.specs.declared.access.Access.{Access}
 use Rattle.rv_model.specs.declared.answer.RunFault.{RunFault}
+use Rattle.rv_model.specs.declared.machine.TheConstants.{MEMORY_END}
 use Rattle.rv_model.specs.declared.answer.StepAnswer.{StepAnswer}
 use Rattle.rv_model.specs.declared.answer.StepAnswer.TheVariants as answers
 use Rattle.rv_model.specs.declared.cpu.Cpu.{Cpu}
@@ -29,8 +30,8 @@ memory_kept (Jal rd imm) s is = refl
 memory_kept (Jalr rd rs1 imm) s is = refl
 memory_kept (Branch cond rs1 rs2 imm) s is = refl
 memory_kept (Load kind rd rs1 imm) s is = refl
-memory_kept (OpImm op rd rs1 imm) s is = refl
-memory_kept (Op op rd rs1 rs2) s is = refl
+memory_kept (OpImm op rd rs1 imm uw) s is = refl
+memory_kept (Op op rd rs1 rs2 uw) s is = refl
 memory_kept Fence s is = refl
 memory_kept Ecall s is = refl
 memory_kept Ebreak s is = refl
@@ -43,8 +44,8 @@ no_access_no_store (Jal rd imm) s is = refl
 no_access_no_store (Jalr rd rs1 imm) s is = refl
 no_access_no_store (Branch cond rs1 rs2 imm) s is = refl
 no_access_no_store (Load kind rd rs1 imm) s is = refl
-no_access_no_store (OpImm op rd rs1 imm) s is = refl
-no_access_no_store (Op op rd rs1 rs2) s is = refl
+no_access_no_store (OpImm op rd rs1 imm uw) s is = refl
+no_access_no_store (Op op rd rs1 rs2 uw) s is = refl
 no_access_no_store Fence s is = refl
 no_access_no_store Ecall s is = refl
 no_access_no_store Ebreak s is = refl
@@ -58,15 +59,15 @@ guards_fault false d answer f g not_both = (g, refl)
 guards_pass : (b d : Bool) (answer p q : Answer) → b ≡ true → d ≡ true → (if b then (if d then answer else p) else q) ≡ answer
 guards_pass b d answer p q first second = rw (first, second) refl
 
-store_faults : (s : State) (kind : Kind) (address value : ℕ) → ((address % width kind ≡ 0) × (address < 2 ^ 32) → ⊥) → (f : RunFault) × (store s kind address value ≡ Fault f)
+store_faults : (s : State) (kind : Kind) (address value : ℕ) → ((address % width kind ≡ 0) × (address < MEMORY_END) → ⊥) → (f : RunFault) × (store s kind address value ≡ Fault f)
 unfolding store
 store_faults s kind address value bad =
-    guards_fault (address % width kind == 0) (nat_lt address (2 ^ 32)) _ _ _ (λ p q. bad (eqb-true _ _ p, ltb-true _ _ q))
+    guards_fault (address % width kind == 0) (nat_lt address MEMORY_END) _ _ _ (λ p q. bad (eqb-true _ _ p, ltb-true _ _ q))
 
-store_leads_on : (s : State) (kind : Kind) (address value : ℕ) → (address % width kind ≡ 0) × (address < 2 ^ 32) → store s kind address value ≡ next_with_store s kind address value
+store_leads_on : (s : State) (kind : Kind) (address value : ℕ) → (address % width kind ≡ 0) × (address < MEMORY_END) → store s kind address value ≡ next_with_store s kind address value
 unfolding store
 store_leads_on s kind address value good =
-    guards_pass (address % width kind == 0) (nat_lt address (2 ^ 32)) _ _ _ (eq-eqb _ _ good.0) (lt-ltb _ _ good.1)
+    guards_pass (address % width kind == 0) (nat_lt address MEMORY_END) _ _ _ (eq-eqb _ _ good.0) (lt-ltb _ _ good.1)
 
 -- what an access at a bad address leaves: the memory, or a fault
 abbrev KeepsOrFaults : Instr → State → Type 0
@@ -83,8 +84,8 @@ bad_access (Jal rd imm) s a is bad = inl refl
 bad_access (Jalr rd rs1 imm) s a is bad = inl refl
 bad_access (Branch cond rs1 rs2 imm) s a is bad = inl refl
 bad_access (Load kind rd rs1 imm) s a is bad = inl refl
-bad_access (OpImm op rd rs1 imm) s a is bad = inl refl
-bad_access (Op op rd rs1 rs2) s a is bad = inl refl
+bad_access (OpImm op rd rs1 imm uw) s a is bad = inl refl
+bad_access (Op op rd rs1 rs2 uw) s a is bad = inl refl
 bad_access Fence s a is bad = inl refl
 bad_access Ecall s a is bad = inl refl
 bad_access Ebreak s a is bad = inl refl
@@ -108,8 +109,8 @@ good_store (Jal rd imm) s a store_is is good = cc
 good_store (Jalr rd rs1 imm) s a store_is is good = cc
 good_store (Branch cond rs1 rs2 imm) s a store_is is good = cc
 good_store (Load kind rd rs1 imm) s a store_is is good = cc
-good_store (OpImm op rd rs1 imm) s a store_is is good = cc
-good_store (Op op rd rs1 rs2) s a store_is is good = cc
+good_store (OpImm op rd rs1 imm uw) s a store_is is good = cc
+good_store (Op op rd rs1 rs2 uw) s a store_is is good = cc
 good_store Fence s a store_is is good = cc
 good_store Ecall s a store_is is good = cc
 good_store Ebreak s a store_is is good = cc

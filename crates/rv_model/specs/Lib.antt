@@ -1,4 +1,5 @@
 pub mod Image
+pub mod Code
 pub mod Op
 pub mod Align
 pub mod Bytes

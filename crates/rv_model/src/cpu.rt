@@ -1,9 +1,11 @@
 //! An instruction over pc, registers and the one doubleword that it may touch.
 ghost use Rattle.std.specs.Prelude.{◌≡◌, ◌+◌, ◌*◌, ◌/◌, ◌%◌, ◌<◌, ◌≤◌, ◌^◌, slice_index, ℕ};
-ghost use Rattle.rv_model.specs.State.{with_reg, is_taken, wrapped, next, next_with_reg, load, store, jump, executed};
+ghost use Rattle.rv_model.specs.State.{with_reg, operand, is_taken, wrapped, next, next_with_reg, load, store, jump, executed};
 ghost use Rattle.rv_model.specs.Cpu.{with_memory, access, is_store, Touches, memory_after, told, KeepsUnlessNext, constant, forgot};
 
-use crate::{Access, RunFault, StepAnswer, align, op, width_of};
+use crate::{
+    Access, CALL_REGISTER, EXIT_CALL, MEMORY_END, RunFault, StepAnswer, align, op, width_of,
+};
 use rv_word::{Cond, Instr, Kind, Reg};
 
 /// pc and the 32 registers. No instruction writes x0, which is 0 at the start.
@@ -28,6 +30,15 @@ fn set_register(x: &mut [u64; 32], reg: Reg, value: u64)
     if number != 0 {
         x[number] = value;
     }
+}
+
+/// The first operand of an operation, by the value of rs1: with uw its low 32 bits (RISC-V Unprivileged ISA, Zba,
+/// "Address generation instructions").
+#[inline(always)]
+pub fn operand(uw: bool, value: u64) -> u64
+    ensures { result ≡ operand uw value }
+{
+    if uw { value % (1 << 32) } else { value }
 }
 
 #[inline(always)]
@@ -109,7 +120,7 @@ impl Cpu {
         if address % width_of(kind) != 0 {
             return StepAnswer::Fault(RunFault::Misaligned(self.pc, address));
         }
-        if address >= 1 << 32 {
+        if address >= MEMORY_END {
             return StepAnswer::Fault(RunFault::BadAddress(self.pc, address));
         }
         let value = align(kind, (address % 8) as u8, old, 0);
@@ -125,7 +136,7 @@ impl Cpu {
         if address % width_of(kind) != 0 {
             return StepAnswer::Fault(RunFault::Misaligned(self.pc, address));
         }
-        if address >= 1 << 32 {
+        if address >= MEMORY_END {
             return StepAnswer::Fault(RunFault::BadAddress(self.pc, address));
         }
         self.pass()
@@ -207,8 +218,10 @@ impl Cpu {
                 rd,
                 rs1,
                 imm,
+                uw,
             } => {
-                let value = op(*operation, register(&self.x, *rs1), imm.cast_unsigned()).0;
+                let a = operand(*uw, register(&self.x, *rs1));
+                let value = op(*operation, a, imm.cast_unsigned()).0;
                 self.write(*rd, value)
             }
             Instr::Op {
@@ -216,16 +229,18 @@ impl Cpu {
                 rd,
                 rs1,
                 rs2,
+                uw,
             } => {
-                let value = op(*operation, register(&self.x, *rs1), register(&self.x, *rs2)).0;
+                let a = operand(*uw, register(&self.x, *rs1));
+                let value = op(*operation, a, register(&self.x, *rs2)).0;
                 self.write(*rd, value)
             }
             Instr::Fence => self.pass(),
             Instr::Ecall => {
-                if self.x[17] == 93 {
+                if self.x[CALL_REGISTER] == EXIT_CALL {
                     StepAnswer::Halt
                 } else {
-                    StepAnswer::Fault(RunFault::BadCall(self.pc, self.x[17]))
+                    StepAnswer::Fault(RunFault::BadCall(self.pc, self.x[CALL_REGISTER]))
                 }
             }
             Instr::Ebreak => StepAnswer::Fault(RunFault::Break(self.pc)),

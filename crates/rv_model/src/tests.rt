@@ -2,7 +2,7 @@
 ghost use Rattle.std.specs.Prelude.{◌≡◌, ◌%◌, ◌≤◌};
 
 use crate::{Image, PlainCpu, Ran, RunEnd, RunFault, Segment, StepAnswer, align, op, run};
-use rv_word::{Kind, OpNo};
+use rv_word::{Instr, Kind, OpNo};
 use std::alloc::{AllocError, Global};
 use std::process::Abort;
 use std::test::Fail;
@@ -32,11 +32,8 @@ fn tiny(alloc: Global, start: u32, words: &[u32]) -> Result<Option<Image>, Alloc
         exec: true,
         bytes,
     })?;
-    Ok(Some(Image {
-        entry: u64::from(start),
-        segments,
-        input: Vec::new(alloc),
-    }))
+    let image = Image::new(alloc, u64::from(start), segments, Vec::new(alloc))?;
+    Ok(Some(image))
 }
 
 fn end_of(alloc: Global, start: u32, words: &[u32], limit: u32) -> Result<Result<Ran, RunEnd>, Fail>
@@ -84,6 +81,16 @@ fn shift_edges(rt: HostRuntime) {
 }
 
 #[test]
+fn new_operations(rt: HostRuntime) {
+    assert_eq!(&rt;
+        value(OpNo::Sh3add, u64::MAX, u64::MAX),
+        0xFFFF_FFFF_FFFF_FFF7
+    );
+    assert_eq!(&rt; value(OpNo::Czeqz, 5, 0), 0);
+    assert_eq!(&rt; value(OpNo::Cznez, 5, 0), 5);
+}
+
+#[test]
 fn align_bytes(rt: HostRuntime) {
     let stored = align(Kind::Sb, 7, 0, 0xF0);
     assert_eq!(&rt; stored, 0xF000_0000_0000_0000);
@@ -99,6 +106,13 @@ fn exit_seven(rt: HostRuntime) -> Result<(), Fail> {
         end_of(rt.alloc(), START, &words, 2)?,
         Err(RunEnd::StepLimit(2))
     );
+    Ok(())
+}
+
+#[test]
+fn add_uw_run(rt: HostRuntime) -> Result<(), Fail> {
+    let words = [0xFFF0_0513, 0x0805_053B, 0x05D0_0893, 0x0000_0073];
+    assert_halts(&rt, end_of(rt.alloc(), START, &words, 4)?, 4, 4_294_967_295);
     Ok(())
 }
 
@@ -181,5 +195,9 @@ fn input_window(rt: HostRuntime) -> Result<(), Fail> {
     assert_eq!(&rt; image.word(START / 8), 0x73);
     assert_eq!(&rt; image.fetch(0x1_0078), Some(0x73));
     assert_eq!(&rt; image.fetch(0x1_007C), None);
+    assert_eq!(&rt; image.instruction(0x1_0078), Some(Instr::Ecall));
+    assert_eq!(&rt; image.decoded(0x1_0078), Some(&Instr::Ecall));
+    assert_eq!(&rt; image.instruction(0x1_007A), None);
+    assert_eq!(&rt; image.instruction(0x1_007C), None);
     Ok(())
 }

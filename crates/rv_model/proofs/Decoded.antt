@@ -3,8 +3,7 @@ use Rattle.std.proofs.Common.{◌≡◌, ◌+◌, ◌*◌, ℕ, zero, suc, List,
 use Rattle.std.specs.List.{slice_get}
 use Rattle.rv_word.specs.declared.instr.Instr.{Instr}
 use Rattle.rv_model.specs.Image.{Img, fetch}
-use Rattle.min_trace.specs.Record.{instr_of}
-use Rattle.rv_emu.specs.Code.{AreInstructions}
+use Rattle.rv_model.specs.Code.{instr_of, AreInstructions}
 
 -- an element of a list with one more is an element of the list, or the last
 slice_get-more : {X : Type 0} (xs : List X) (y z : X) (k : ℕ) → slice_get (xs ++ y ∷ []) k ≡ Some z → (slice_get xs k ≡ Some z) ⊎ ((k ≡ length xs) × (y ≡ z))

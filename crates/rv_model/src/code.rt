@@ -1,45 +1,22 @@
 //! The instructions of an image, decoded once.
 ghost use Rattle.std.specs.Prelude.{◌≡◌, ◌+◌, ◌*◌, ◌<◌, ◌^◌, IfOk, IfSome, Some, All};
-ghost use Rattle.std.specs.Arc.{arc_value};
 ghost use Rattle.rv_model.specs.Image.{Img, fetch};
-ghost use Rattle.min_trace.specs.Record.{instr_of};
-ghost use Rattle.rv_emu.specs.Code.{IsPart, AreInstructions};
+ghost use Rattle.rv_model.specs.Code.{instr_of, IsPart, AreInstructions};
 
-use rv_model::{Image, Segment};
+use crate::{Image, Segment};
 use rv_word::{Instr, decode};
 use std::alloc::{AllocError, Global};
-use std::marker::Model;
-use std::sync::Arc;
 
 /// The instructions of the words that the file put into an executable segment, from its first multiple of 4 on.
-#[derive(Drop)]
-pub struct Part {
+#[derive(Debug, Drop)]
+pub(crate) struct Part {
     start: u64,
     instrs: Vec<Option<Instr>>,
 }
 
-/// An image with the instructions that its file holds. A caller sees it as the image.
-#[derive(Drop)]
-pub struct Code {
-    image: Arc<Image>,
-    parts: Vec<Part>,
-}
-
-impl Model for Code {
-    ghost use Rattle.std.specs.Prelude.{All};
-    ghost use Rattle.std.specs.Arc.{arc_value};
-    ghost use Rattle.rv_model.specs.Image.{Img};
-    ghost use Rattle.rv_emu.specs.Code.{IsPart};
-
-    ghost Value = { Img };
-
-    ghost view = { λ c. arc_value c.image };
-
-    ghost invariant = { λ c. All (IsPart (arc_value c.image)) c.parts.items };
-}
-
 // The instruction at an address, if there is one.
-fn instruction(image: &Image, address: u64) -> Option<Instr>
+#[cold]
+fn fetch_and_decode(image: &Image, address: u64) -> Option<Instr>
     ensures { result ≡ instr_of (fetch image.now address) }
 {
     match image.fetch(address) {
@@ -60,7 +37,7 @@ fn instructions(
 {
     let mut instrs = Vec::with_capacity(alloc, count)?;
     for k in 0..count {
-        instrs.push(instruction(image, start + 4 * k as u64))?;
+        instrs.push(fetch_and_decode(image, start + 4 * k as u64))?;
     }
     Ok(instrs)
 }
@@ -91,7 +68,8 @@ fn add_part(
     Ok(())
 }
 
-fn parts_of(alloc: Global, image: &Image) -> Result<Vec<Part>, AllocError>
+/// The instructions of the words that the file put into the image's executable segments.
+pub(crate) fn parts_of(alloc: Global, image: &Image) -> Result<Vec<Part>, AllocError>
     ensures { IfOk result (λ parts. All (IsPart image.now) parts.items) }
 {
     let mut parts = Vec::new(alloc);
@@ -118,29 +96,10 @@ impl Part {
     }
 }
 
-impl Code {
-    /// Decodes the words of the image's file. It shares the image.
-    pub fn new(alloc: Global, image: &Arc<Image>) -> Result<Code, AllocError>
-        ensures { IfOk result (λ code. code ≡ arc_value image.now) }
-    {
-        let parts = parts_of(alloc, image)?;
-        Ok(Code {
-            image: Arc::try_clone(image)?,
-            parts,
-        })
-    }
-
-    /// The word at an address as `Image::fetch` finds it.
-    #[cold]
-    pub fn fetch(&self, address: u64) -> Option<u32>
-        ensures { result ≡ fetch self.now address }
-    {
-        self.image.fetch(address)
-    }
-
+impl Image {
     /// The instruction at a pc, where it was decoded: where there is none, the word may be an instruction still.
     #[inline(always)]
-    pub fn instr(&self, pc: u64) -> Option<&Instr>
+    pub fn decoded(&self, pc: u64) -> Option<&Instr>
         ensures { IfSome result (λ i. instr_of (fetch self.now pc) ≡ Some i.now) }
     {
         let count = self.parts.partition_point(|part| part.start <= pc);
@@ -148,6 +107,17 @@ impl Code {
             None
         } else {
             self.parts[count - 1].instr(pc)
+        }
+    }
+
+    /// The instruction of the executable word at pc, if there is such a word and it is an instruction.
+    #[inline(always)]
+    pub fn instruction(&self, pc: u64) -> Option<Instr>
+        ensures { result ≡ instr_of (fetch self.now pc) }
+    {
+        match self.decoded(pc) {
+            Some(instr) => Some(*instr),
+            None => fetch_and_decode(self, pc),
         }
     }
 }
