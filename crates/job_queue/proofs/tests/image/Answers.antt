@@ -29,4 +29,4 @@ new-requires c =
     let long : length s.bytes ≡ 4 = grind (arith, common_steps) in
     let is : IsSegment s = record { some = omega arith; below = omega arith; bytes_fit = omega arith; off_input = inl (omega arith); off_output = inl (omega arith) } in
     let items : c.push.new.self.items ≡ s ∷ [] = c.in_ok-push.ensures.items ∙ ap (λ xs. xs ++ s ∷ []) c.new-segments.ensures.items in
-    rw (items, c.new.ensures.items) (one_segment s is refl refl (omega arith) (omega arith))
+    rw (items, c.new-input.ensures.items) (one_segment s is refl refl (omega arith) (omega arith))
