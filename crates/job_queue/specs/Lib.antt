@@ -1,4 +1,3 @@
-pub mod Runs
 pub mod Truth
 pub mod Rule
 pub mod Calls

@@ -1,7 +1,7 @@
 -- What the queue's rule says of each ticket.
 use Rattle.std.specs.Prelude.{ℕ}
 use Rattle.rv_model.specs.Image.{Img}
-use Rattle.job_queue.specs.Runs.{IsJobOf, values_of}
+use Rattle.run_rows.specs.Runs.{IsJobOf, values_of}
 use Rattle.job_queue.specs.declared.ticket.Ticket.{Ticket}
 use Rattle.job_queue.specs.declared.ticket.Ticket.TheVariants.{Work, Stop}
 

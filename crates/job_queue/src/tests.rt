@@ -14,11 +14,8 @@ fn image(alloc: Global) -> Result<Image, AllocError> {
         exec: true,
         bytes: [0x73, 0, 0, 0].to_vec(alloc)?,
     })?;
-    Ok(Image {
-        entry: 0,
-        segments,
-        input: Vec::new(alloc),
-    })
+    let input = Vec::new(alloc);
+    Image::new(alloc, 0, segments, input)
 }
 
 fn is_stop(ticket: &Ticket) -> bool {

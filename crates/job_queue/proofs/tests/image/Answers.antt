@@ -23,10 +23,10 @@ one_segment s is exec multiple room few =
       entry = rw (aligned, runs) (search rules);
     }
 
-pub invariant_of-result : goal.invariant_of-result
-invariant_of-result c =
+pub new-requires : goal.new-requires
+new-requires c =
     let s : Seg = record { start = 0; len = 4; exec = true; bytes = c.in_ok-to_vec.field-0.items } in
     let long : length s.bytes ≡ 4 = grind (arith, common_steps) in
     let is : IsSegment s = record { some = omega arith; below = omega arith; bytes_fit = omega arith; off_input = inl (omega arith); off_output = inl (omega arith) } in
     let items : c.push.new.self.items ≡ s ∷ [] = c.in_ok-push.ensures.items ∙ ap (λ xs. xs ++ s ∷ []) c.new-segments.ensures.items in
-    rw (items, c.new.ensures.items) (one_segment s is refl refl (omega arith) (omega arith))
+    rw (items, c.new-input.ensures.items) (one_segment s is refl refl (omega arith) (omega arith))
