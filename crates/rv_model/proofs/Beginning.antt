@@ -1,12 +1,10 @@
 -- An image's doublewords are 64-bit numbers, and its entry is in memory.
-use Rattle.std.proofs.Common.{◌≡◌, ◌==◌, ◌+◌, ◌-◌, ◌*◌, ◌/◌, ◌%◌, ◌<◌, ◌≤◌, ◌^◌, ◌&&◌, inl, inr, ℕ, zero, suc, Bool, true, false, nat_lt, nat_le, if◌then◌else◌, List, [], ◌∷◌, length, get_or, Option, Some, None, IsSome, IfSome, refl, ap, sym, subst, ◌∙◌, arith}
+use Rattle.std.proofs.Common.{◌≡◌, ◌==◌, ◌+◌, ◌-◌, ◌*◌, ◌/◌, ◌%◌, ◌<◌, ◌^◌, ◌&&◌, ℕ, zero, suc, Bool, true, false, nat_lt, nat_le, if◌then◌else◌, List, [], ◌∷◌, length, get_or, Option, Some, None, IsSome, refl, arith}
 use Rattle.std.specs.Prelude.{All, find}
 use Rattle.std.specs.Option.{option_map, option_map_or}
-use Rattle.std.proofs.lemmas.Bool.{cases_lt}
 use Rattle.std.proofs.lemmas.Bool.Decides.{nat_tests}
-use Rattle.std.proofs.lemmas.List.{get_or_past}
-use Rattle.std.proofs.lemmas.List.Elements.{All-get_or, All-head, All-tail}
-use Rattle.rv_model.specs.Image.{Img, Seg, AreBytes, IsSegment, IsLoadable, fetch, runs_at, has, covers, byte_in, word_in, segment_byte, window_byte, initial_byte, initial_word}
+use Rattle.std.proofs.lemmas.List.Elements.{All-head, All-tail}
+use Rattle.rv_model.specs.Image.{Img, Seg, AreBytes, IsSegment, IsLoadable, fetch, runs_at, has, byte_in, word_in, segment_byte, window_byte, initial_byte, initial_word}
 use Rattle.rv_model.specs.declared.machine.TheConstants.{INPUT_START, INPUT_END}
 use Rattle.rv_model.proofs.Values.{joined_below, byte_in_list}
 
