@@ -1,6 +1,6 @@
 //! What is loaded.
 ghost use Rattle.std.specs.Prelude.{◌≡◌, ◌+◌, ◌≤◌, length, IfOk};
-ghost use Rattle.rv_model.specs.Image.{IsLoadable};
+ghost use Rattle.rv_model.specs.Image.{AreBytes, IsLoadable};
 
 use crate::INPUT_LEN;
 use crate::code::{Part, parts_of};
@@ -53,6 +53,12 @@ impl Model for Image {
     ghost invariant = { λ i. IsImage (record { entry = i.entry; segments = i.segments.items; input = i.input.items }) i.parts.items };
 }
 
+// What the type of bytes says of them.
+#[inline(always)]
+fn octets(bytes: &[u8])
+    ensures { AreBytes bytes.now }
+{}
+
 impl Image {
     /// The image of these segments, of which none shares an address with another or with a window. Its instructions
     /// are decoded here: it takes memory for the bytes of executable segments alone.
@@ -80,6 +86,7 @@ impl Image {
         requires { length input.items + 8 ≤ INPUT_LEN }
         ensures { result ≡ record self { input = input.items } }
     {
+        octets(&input);
         let mut image = self;
         image.input = input;
         image

@@ -13,6 +13,7 @@ use Rattle.rv_word.specs.declared.instr.OpNo.{OpNo}
 use Rattle.rv_word.specs.declared.instr.OpNo.TheVariants as ops
 use Rattle.rv_word.specs.declared.instr.Kind.{Kind}
 use Rattle.rv_word.specs.declared.instr.Kind.TheVariants.{Lb, Lh, Lw, Ld, Lbu, Lhu, Lwu, Sb, Sh, Sw, Sd}
+use Rattle.rv_model.specs.Image.{AreBytes}
 use Rattle.rv_model.specs.Op.{value_of, signed, signed_low, bits_of, word}
 use Rattle.rv_model.specs.Align.{put, aligned, bytes}
 
@@ -145,8 +146,8 @@ bytes_below : (i k n : ℕ) → All IsByte (bytes_low_first i k n)
 bytes_below i zero n = All-nil IsByte
 bytes_below i (suc k) n = All-cons IsByte (byte_at i n) (bytes_low_first (suc i) k n) (byte_below i n) (bytes_below (suc i) k n)
 
-byte_in : (bs : List ℕ) (i : ℕ) → All IsByte bs → get_or bs i 0 < 256
-byte_in bs i all = elim (cases_lt i (length bs)) [
+pub byte_in_list : (bs : List ℕ) (i : ℕ) → AreBytes bs → get_or bs i 0 < 256
+byte_in_list bs i all = elim (cases_lt i (length bs)) [
   | inl inside ↦ All-get_or IsByte bs i 0 inside all
   | inr past ↦ let e : get_or bs i 0 ≡ 0 = get_or_past bs i 0 past in omega arith
 ]
@@ -156,7 +157,7 @@ joined_below bs h = omega (arith, h 0, h 1, h 2, h 3, h 4, h 5, h 6, h 7)
 
 put_below : (n off old value : ℕ) → put n off old value < 2 ^ 64
 put_below n off old value =
-    joined_below _ (λ i. byte_in _ i (All-append IsByte (take off (bytes old) ++ take n (bytes value)) (drop (off + n) (bytes old))
+    joined_below _ (λ i. byte_in_list _ i (All-append IsByte (take off (bytes old) ++ take n (bytes value)) (drop (off + n) (bytes old))
     (All-append IsByte (take off (bytes old)) (take n (bytes value)) (All-take IsByte off (bytes old) (bytes_below 0 8 old)) (All-take IsByte n (bytes value) (bytes_below 0 8 value)))
     (All-drop IsByte (off + n) (bytes old) (bytes_below 0 8 old))))
 
