@@ -7,4 +7,4 @@
 
 mod laws;
 
-pub use laws::binary_laws;
+pub use laws::{binary_laws, shift_laws};
