@@ -6,5 +6,7 @@
 #![tactic(auto)]
 
 mod laws;
+mod text;
 
 pub use laws::{binary_laws, shift_laws};
+pub use text::spaces;
