@@ -1,9 +1,10 @@
 //! What is loaded.
 ghost use Rattle.std.specs.Prelude.{◌≡◌, ◌+◌, ◌≤◌, length, IfOk};
-ghost use Rattle.rv_model.specs.Image.{AreBytes, IsLoadable};
+ghost use Rattle.rv_model.specs.Image.{IsLoadable};
 
 use crate::INPUT_LEN;
 use crate::code::{Part, parts_of};
+use crate::laws::bytes_law;
 use std::alloc::{AllocError, Global};
 use std::marker::Model;
 
@@ -53,12 +54,6 @@ impl Model for Image {
     ghost invariant = { λ i. IsImage (record { entry = i.entry; segments = i.segments.items; input = i.input.items }) i.parts.items };
 }
 
-// What the type of bytes says of them.
-#[inline(always)]
-fn octets(bytes: &[u8])
-    ensures { AreBytes bytes.now }
-{}
-
 impl Image {
     /// The image of these segments, of which none shares an address with another or with a window. Its instructions
     /// are decoded here: it takes memory for the bytes of executable segments alone.
@@ -86,7 +81,7 @@ impl Image {
         requires { length input.items + 8 ≤ INPUT_LEN }
         ensures { result ≡ record self { input = input.items } }
     {
-        octets(&input);
+        bytes_law(&input);
         let mut image = self;
         image.input = input;
         image

@@ -2,7 +2,7 @@
 ghost use Rattle.std.specs.Prelude.{◌≡◌, ◌<◌, ◌^◌, ℕ};
 ghost use Rattle.rv_word.specs.declared.instr.Kind.{Kind};
 ghost use Rattle.rv_word.specs.declared.instr.OpNo.{OpNo};
-ghost use Rattle.rv_model.specs.Image.{Img, IsLoadable, initial_word};
+ghost use Rattle.rv_model.specs.Image.{Img, AreBytes, IsLoadable, initial_word};
 ghost use Rattle.rv_model.specs.Op.{value_of};
 ghost use Rattle.rv_model.specs.Align.{aligned};
 ghost use Rattle.rv_model.specs.State.{State, step};
@@ -18,6 +18,12 @@ pub fn byte_machine()
 {
     decoding_law();
 }
+
+/// Each item of bytes is below 256, as an image keeps it of its segments and of its input.
+#[inline(always)]
+pub fn bytes_law(bytes: &[u8])
+    ensures { AreBytes bytes.now }
+{}
 
 /// An image's doublewords are numbers of 64 bits when its run starts, and its entry lies in memory.
 pub fn words_law()
