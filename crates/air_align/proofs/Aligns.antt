@@ -7,7 +7,7 @@ use Rattle.pil_exact.proofs.Flags.{flags}
 use Rattle.machine_text.specs.Align.{items, access}
 use Rattle.air_align.specs.Laws.{AlignSound, AlignExact}
 use Rattle.air_align.proofs.Limbs.{low_of, high_of, fits}
-use Rattle.step_rows.specs.Tuples.{access_tuple, IsAccess}
+use Rattle.step_rows.specs.Tuples.{IsAccess}
 use Rattle.air_align.proofs.Known.{Selected, selected, all_sides, told, base, one_kind, one_offset}
 use Rattle.air_align.proofs.Rows.{IsTuple, Accesses}
 use Rattle.air_align.proofs.Lb.{lb}

@@ -11,11 +11,11 @@ use Rattle.pil_ast.specs.Columns.{Columns}
 use Rattle.pil_ast.specs.Value.{Cells, around, value}
 use Rattle.pil_exact.proofs.Row.{is, amount, meet_both}
 use Rattle.pil_exact.proofs.Flags.{flags}
-use Rattle.air_align.proofs.Limbs.{Limbs, low_of, high_of}
+use Rattle.air_align.proofs.Limbs.{low_of, high_of}
 use Rattle.machine_text.specs.Align.{items, kind, off, olo, ohi, vlo, vhi, access}
 use Rattle.step_rows.specs.AlignRow.{align_row}
 use Rattle.step_rows.specs.Tuples.{access_tuple}
-use Rattle.air_align.specs.Laws.{AlignComplete, HasAlign, Meets, IsRowOf}
+use Rattle.air_align.specs.Laws.{AlignComplete, IsRowOf}
 use Rattle.air_align.proofs.Known.{Selected, selected, told, base}
 use Rattle.air_align.proofs.Aligns.{tuple_holds}
 use Rattle.air_align.proofs.Complete.{row_meets}
