@@ -1,0 +1,39 @@
+-- The constants of Mem, Init and Out (docs/MACHINE.md, "Constants").
+use Rattle.std.specs.Prelude.{ℕ, ◌+◌, ◌-◌, ◌*◌, ◌<◌, ◌≤◌, ◌≡◌, ◌==◌, ◌&&◌, nat_lt, cond, List, length, slice_get, Option, Some, None}
+use Rattle.pil_ast.specs.Columns.{Columns}
+use Rattle.pil_laws.specs.Joints.{Joints}
+
+-- INST, CLAST and CFIRST, then LAST and L0
+pub record MemConstants (c : Columns) : Type 0 where
+  pub joints : Joints c 7 0 3 4
+  pub rows : c.rows 7 ≡ 8192
+  pub is_last : (i r : ℕ) → i < c.instances 7 → r < c.rows 7 → c.at 7 i 1 r ≡ cond (r + 1 == c.rows 7) 1 0
+  pub is_first : (i r : ℕ) → i < c.instances 7 → r < c.rows 7 → c.at 7 i 2 r ≡ cond (i == 0 && r == 0) 1 0
+
+-- the key of Out's row r
+abbrev pub out_key : ℕ → ℕ
+out_key r = cond (r == 0) 536870922 (cond (nat_lt r 33) (167772160 + r - 1) 0)
+
+pub record OutConstants (c : Columns) : Type 0 where
+  pub instances : c.instances 8 ≡ 1
+  pub rows : c.rows 8 ≡ 64
+  pub is_sel : (r : ℕ) → r < 64 → c.at 8 0 0 r ≡ cond (nat_lt r 33) 1 0
+  pub is_key : (r : ℕ) → r < 64 → c.at 8 0 1 r ≡ out_key r
+
+-- an initial doubleword: its key and its limbs
+pub record Initial : Type 0 where
+  pub key : ℕ
+  pub lo : ℕ
+  pub hi : ℕ
+
+abbrev pub of_initial : (Initial → ℕ) → Option Initial → ℕ
+of_initial f None = 0
+of_initial f (Some d) = f d
+
+-- Init has these doublewords, in order of its rows
+pub record InitConstants (c : Columns) (ds : List Initial) : Type 0 where
+  pub room : length ds ≤ c.instances 5 * c.rows 5
+  pub is_sel : (i r : ℕ) → i < c.instances 5 → r < c.rows 5 → c.at 5 i 0 r ≡ of_initial (λ d. 1) (slice_get ds (i * c.rows 5 + r))
+  pub is_key : (i r : ℕ) → i < c.instances 5 → r < c.rows 5 → c.at 5 i 1 r ≡ of_initial (λ d. d.key) (slice_get ds (i * c.rows 5 + r))
+  pub is_lo : (i r : ℕ) → i < c.instances 5 → r < c.rows 5 → c.at 5 i 2 r ≡ of_initial (λ d. d.lo) (slice_get ds (i * c.rows 5 + r))
+  pub is_hi : (i r : ℕ) → i < c.instances 5 → r < c.rows 5 → c.at 5 i 3 r ≡ of_initial (λ d. d.hi) (slice_get ds (i * c.rows 5 + r))
