@@ -1,5 +1,5 @@
 -- What Mem receives, and what Init and Out send, as lists of accesses; Out's lines.
-use Rattle.std.proofs.Common.{map, length, ℕ, zero, suc, ◌+◌, ◌*◌, ◌<◌, ◌≤◌, ◌≡◌, inl, inr, Bool, true, false, cond, not, eqb, ltb, ◌&&◌, List, [], ◌∷◌, flat_map, Option, Some, None, refl, sym, ap, subst, ◌∙◌, arith}
+use Rattle.std.proofs.Common.{map, length, ℕ, zero, suc, ◌+◌, ◌*◌, ◌<◌, ◌≤◌, ◌≡◌, inl, inr, Bool, true, false, cond, not, eqb, ltb, ◌&&◌, List, [], ◌∷◌, Option, Some, None, refl, sym, ap, subst, ◌∙◌, arith}
 use Rattle.std.specs.Prelude.{slice_get, slice_index}
 use Rattle.std.specs.List.{range_with_len}
 use Rattle.std.proofs.lemmas.Bool.Decides.{nat_tests}
@@ -16,7 +16,9 @@ use Rattle.pil_laws.proofs.Sent.{unsent, sent_one}
 use Rattle.pil_laws.proofs.Table.{sent-tuples}
 use Rattle.machine_text.specs.Out
 use Rattle.air_mem.specs.Access.{Access, memory_tuple}
-use Rattle.air_mem.specs.Constants.{OutConstants, Initial, of_initial}
+use Rattle.step_rows.specs.Words.{low, high}
+use Rattle.step_rows.specs.Initial.{Doubleword}
+use Rattle.air_mem.specs.Constants.{OutConstants, of_initial}
 use Rattle.machine_text.specs.Mem
 use Rattle.machine_text.specs.Init
 use Rattle.air_mem.specs.Lists.{initial_write, final_read}
@@ -57,7 +59,7 @@ mem_receives ns c xs is t =
 
 -- Init
 
-init_piece : (ns : List Namespace) (c : Columns) (i r : ℕ) (o : Option Initial) → c.at 5 i 0 r ≡ of_initial (λ d. 1) o → c.at 5 i 1 r ≡ of_initial (λ d. d.key) o → c.at 5 i 2 r ≡ of_initial (λ d. d.lo) o → c.at 5 i 3 r ≡ of_initial (λ d. d.hi) o → row_sent ns c Init.writes i r ≡ piece (λ d. memory_tuple (initial_write d)) o
+init_piece : (ns : List Namespace) (c : Columns) (i r : ℕ) (o : Option Doubleword) → c.at 5 i 0 r ≡ of_initial (λ d. 1) o → c.at 5 i 1 r ≡ of_initial (λ d. d.number) o → c.at 5 i 2 r ≡ of_initial (λ d. low d.value) o → c.at 5 i 3 r ≡ of_initial (λ d. high d.value) o → row_sent ns c Init.writes i r ≡ piece (λ d. memory_tuple (initial_write d)) o
 init_piece ns c i r None s k l h = unsent ns c Init.writes i r (set_off _ s)
 init_piece ns c i r (Some d) s k l h = sent_one ns c Init.writes i r (set_on _ s) ∙ ap (λ u. u ∷ []) (five _ _ _ _ _ _ _ _ _ _ k refl refl l h)
 

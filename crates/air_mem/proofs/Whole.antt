@@ -11,8 +11,9 @@ use Rattle.pil_ast.specs.Columns.{Columns}
 use Rattle.pil_ast.specs.Holds.{times, all_sent, AsOften}
 use Rattle.pil_laws.proofs.Times.{times_append, often_from_permutation}
 use Rattle.pil_laws.proofs.Sums.{times_both, times_single, times_more}
+use Rattle.step_rows.specs.Initial.{Doubleword}
 use Rattle.air_mem.specs.Access.{Access, memory_tuple, InReach, HasLast, written, never, IsReadLastWrite, IsSequence}
-use Rattle.air_mem.specs.Constants.{OutConstants, InitConstants, Initial, out_key}
+use Rattle.air_mem.specs.Constants.{OutConstants, InitConstants, out_key}
 use Rattle.machine_text.specs.Mem
 use Rattle.machine_text.specs.Init
 use Rattle.machine_text.specs.Out
@@ -40,10 +41,10 @@ reads_reach c =
     let e = get_or-range_with_len 0 33 k d (omega arith) in
     subst (λ r. InReach (final_read c r)) (sym e) (final_reach c (0 + k) (omega arith)))
 
-writes_reach : (ds : List Initial) → All (λ d. d.key < 2 ^ 30) ds → All InReach (map initial_write ds)
+writes_reach : (ds : List Doubleword) → All (λ d. d.number < 2 ^ 30) ds → All InReach (map initial_write ds)
 writes_reach ds h = All-map InReach initial_write ds (λ k d l. record { key = h k d l; time = omega arith })
 
-module _ (ns : List Namespace) (c : Columns) (ls : List Tuples) (ms : List Access) (ds : List Initial) (init : InitConstants c ds) (out : OutConstants c) (main : AsOften (all_sent ns c ls) (map memory_tuple ms)) where
+module _ (ns : List Namespace) (c : Columns) (ls : List Tuples) (ms : List Access) (ds : List Doubleword) (init : InitConstants c ds) (out : OutConstants c) (main : AsOften (all_sent ns c ls) (map memory_tuple ms)) where
   -- the senders' tuples are those of all accesses
   senders : AsOften (all_sent ns c (bus_lists ls)) (map memory_tuple (all_accesses ms ds c))
   senders t =

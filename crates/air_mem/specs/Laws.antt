@@ -13,8 +13,9 @@ use Rattle.machine_text.specs.Machine.{machine}
 use Rattle.machine_text.specs.Init
 use Rattle.machine_text.specs.Mem
 use Rattle.machine_text.specs.Out
+use Rattle.step_rows.specs.Initial.{Doubleword}
 use Rattle.air_mem.specs.Access.{Access, memory_tuple, InReach, ComesBefore, IsReadLastWrite, IsSequence}
-use Rattle.air_mem.specs.Constants.{MemConstants, OutConstants, InitConstants, Initial}
+use Rattle.air_mem.specs.Constants.{MemConstants, OutConstants, InitConstants}
 use Rattle.air_mem.specs.Lists.{bus_lists, all_accesses, initial_write, final_reads, read_access, IsShaped}
 use Rattle.air_mem.specs.Rows.{IsMemOf}
 
@@ -59,7 +60,7 @@ MemReceives = (ns : List Namespace) (c : Columns) (xs : List Access) → IsMemOf
 
 -- Init sends the initial writes, and Out the final reads; Out's lines hold and none wraps, whatever its values are.
 abbrev pub InitSends : Type 0
-InitSends = (ns : List Namespace) (c : Columns) (ds : List Initial) → InitConstants c ds → AsOften (sent ns c Init.writes) (map memory_tuple (map initial_write ds))
+InitSends = (ns : List Namespace) (c : Columns) (ds : List Doubleword) → InitConstants c ds → AsOften (sent ns c Init.writes) (map memory_tuple (map initial_write ds))
 
 abbrev pub OutSends : Type 0
 OutSends = (ns : List Namespace) (c : Columns) → OutConstants c → AsOften (sent ns c Out.reads) (map memory_tuple (final_reads c))
@@ -73,12 +74,12 @@ OutExact = (ns : List Namespace) (c : Columns) (i r k : ℕ) → HoldsExactly Ou
 -- Line 20, where Main's lists `ls` send the accesses `ms`: what Main, Init and Out send is read-last-write.
 abbrev pub BusLaw : Type 0
 BusLaw =
-    (ns : List Namespace) (c : Columns) (ls : List Tuples) (ms : List Access) (ds : List Initial) → HasMem ns c → MemHolds ns c → InitConstants c ds → OutConstants c → AsOften (all_sent ns c ls) (map memory_tuple ms) → Holds ns c (bus (bus_lists ls) (Mem.access ∷ [])) → All InReach ms → All (λ d. d.key < 2 ^ 30) ds → IsReadLastWrite (all_accesses ms ds c)
+    (ns : List Namespace) (c : Columns) (ls : List Tuples) (ms : List Access) (ds : List Doubleword) → HasMem ns c → MemHolds ns c → InitConstants c ds → OutConstants c → AsOften (all_sent ns c ls) (map memory_tuple ms) → Holds ns c (bus (bus_lists ls) (Mem.access ∷ [])) → All InReach ms → All (λ d. d.number < 2 ^ 30) ds → IsReadLastWrite (all_accesses ms ds c)
 
 -- It holds where Mem has the same accesses in any order.
 abbrev pub BusFilled : Type 0
 BusFilled =
-    (ns : List Namespace) (c : Columns) (ls : List Tuples) (ms : List Access) (ds : List Initial) (xs : List Access) → InitConstants c ds → OutConstants c → AsOften (all_sent ns c ls) (map memory_tuple ms) → IsPermutation (all_accesses ms ds c) xs → IsMemOf c xs → Holds ns c (bus (bus_lists ls) (Mem.access ∷ []))
+    (ns : List Namespace) (c : Columns) (ls : List Tuples) (ms : List Access) (ds : List Doubleword) (xs : List Access) → InitConstants c ds → OutConstants c → AsOften (all_sent ns c ls) (map memory_tuple ms) → IsPermutation (all_accesses ms ds c) xs → IsMemOf c xs → Holds ns c (bus (bus_lists ls) (Mem.access ∷ []))
 
 -- In the machine's text Mem has the number 7, and Out's values of row k are the publics 2k and 2k + 1.
 abbrev pub MachineHas : Type 0
@@ -91,7 +92,7 @@ OutPublics =
 -- What Mem receives where line 20 holds: all accesses, and each is in reach.
 abbrev pub BusReceives : Type 0
 BusReceives =
-    (ns : List Namespace) (c : Columns) (ls : List Tuples) (ms : List Access) (ds : List Initial) → InitConstants c ds → OutConstants c → AsOften (all_sent ns c ls) (map memory_tuple ms) → Holds ns c (bus (bus_lists ls) (Mem.access ∷ [])) → All InReach ms → All (λ d. d.key < 2 ^ 30) ds → AsOften (map memory_tuple (all_accesses ms ds c)) (sent ns c Mem.access) × All InReach (all_accesses ms ds c)
+    (ns : List Namespace) (c : Columns) (ls : List Tuples) (ms : List Access) (ds : List Doubleword) → InitConstants c ds → OutConstants c → AsOften (all_sent ns c ls) (map memory_tuple ms) → Holds ns c (bus (bus_lists ls) (Mem.access ∷ [])) → All InReach ms → All (λ d. d.number < 2 ^ 30) ds → AsOften (map memory_tuple (all_accesses ms ds c)) (sent ns c Mem.access) × All InReach (all_accesses ms ds c)
 
 -- its limbs are values of the field
 abbrev pub IsCanonical : Access → Type 0
@@ -105,4 +106,4 @@ MemExists =
 -- Lines 20 to 37, complete: where what Main, Init and Out send is read-last-write, and Mem has it in order.
 abbrev pub MemoryComplete : Type 0
 MemoryComplete =
-    (ns : List Namespace) (c : Columns) (ls : List Tuples) (ms : List Access) (ds : List Initial) (xs : List Access) → HasMem ns c → InitConstants c ds → OutConstants c → AsOften (all_sent ns c ls) (map memory_tuple ms) → All InReach ms → All (λ d. d.key < 2 ^ 30) ds → IsReadLastWrite (all_accesses ms ds c) → IsPermutation (all_accesses ms ds c) xs → AllPairs ComesBefore xs → IsMemOf c xs → MemHolds ns c × Holds ns c (bus (bus_lists ls) (Mem.access ∷ []))
+    (ns : List Namespace) (c : Columns) (ls : List Tuples) (ms : List Access) (ds : List Doubleword) (xs : List Access) → HasMem ns c → InitConstants c ds → OutConstants c → AsOften (all_sent ns c ls) (map memory_tuple ms) → All InReach ms → All (λ d. d.number < 2 ^ 30) ds → IsReadLastWrite (all_accesses ms ds c) → IsPermutation (all_accesses ms ds c) xs → AllPairs ComesBefore xs → IsMemOf c xs → MemHolds ns c × Holds ns c (bus (bus_lists ls) (Mem.access ∷ []))

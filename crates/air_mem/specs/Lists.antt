@@ -6,11 +6,13 @@ use Rattle.pil_ast.specs.Columns.{Columns}
 use Rattle.machine_text.specs.Init
 use Rattle.machine_text.specs.Out
 use Rattle.air_mem.specs.Access.{Access}
-use Rattle.air_mem.specs.Constants.{Initial, out_key}
+use Rattle.step_rows.specs.Words.{low, high}
+use Rattle.step_rows.specs.Initial.{Doubleword}
+use Rattle.air_mem.specs.Constants.{out_key}
 
 -- an initial write, at time 0
-abbrev pub initial_write : Initial → Access
-initial_write d = record { key = d.key; time = 0; write = true; lo = d.lo; hi = d.hi }
+abbrev pub initial_write : Doubleword → Access
+initial_write d = record { key = d.number; time = 0; write = true; lo = low d.value; hi = high d.value }
 
 -- a final read, at time 2^35
 abbrev pub final_read : Columns → ℕ → Access
@@ -24,7 +26,7 @@ abbrev pub bus_lists : List Tuples → List Tuples
 bus_lists ls = ls ++ Init.writes ∷ Out.reads ∷ []
 
 -- what Main, Init and Out send, where Main sends `ms`
-abbrev pub all_accesses : List Access → List Initial → Columns → List Access
+abbrev pub all_accesses : List Access → List Doubleword → Columns → List Access
 all_accesses ms ds c = ms ++ (map initial_write ds ++ final_reads c)
 
 -- a tuple of the memory bus as an access
