@@ -2,7 +2,7 @@
 use Rattle.std.specs.Prelude.{ℕ, ◌^◌, ◌==◌, List, Option, None, Some, if◌then◌else◌}
 use Rattle.std.specs.List.{filter_map, range_with_len}
 use Rattle.rv_model.specs.Image.{Img, initial_word}
-pub use Rattle.step_rows.specs.declared.doubleword.Doubleword.{Doubleword}
+use Rattle.step_rows.specs.declared.doubleword.Doubleword.{Doubleword}
 
 abbrev pub unless_zero : ℕ → ℕ → Option Doubleword
 unless_zero k v = if v == 0 then None else Some (record { number = k; value = v })

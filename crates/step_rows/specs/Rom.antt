@@ -13,7 +13,7 @@ use Rattle.rv_model.specs.Op.{bits_of}
 use Rattle.rv_model.specs.State.{wrapped}
 use Rattle.min_trace.specs.Operands.{compared_by}
 use Rattle.rv_model.specs.Code.{instr_of}
-pub use Rattle.step_rows.specs.declared.rom_row.RomRow.{RomRow}
+use Rattle.step_rows.specs.declared.rom_row.RomRow.{RomRow}
 use Rattle.step_rows.specs.Words.{low, high, one_if}
 
 -- whether a branch is taken where its comparison's flag is 0
