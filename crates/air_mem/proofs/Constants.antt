@@ -18,7 +18,8 @@ use Rattle.zk_layout.specs.Namespaces.{namespace_number}
 use Rattle.zk_layout.specs.declared.namespace.Namespace.TheVariants as spaces
 use Rattle.rv_model.specs.Image.{Img, initial_word}
 use Rattle.step_rows.specs.Words.{low, high}
-use Rattle.step_rows.specs.Initial.{Doubleword, initial_doublewords, unless_zero}
+use Rattle.step_rows.specs.Initial.{initial_doublewords, unless_zero}
+use Rattle.step_rows.specs.declared.doubleword.Doubleword.{Doubleword}
 use Rattle.pil_ast.specs.Columns.{Columns}
 use Rattle.fixed_cols.specs.declared.sizes.Sizes.{Sizes}
 use Rattle.fixed_cols.specs.Columns.{HasConstants}

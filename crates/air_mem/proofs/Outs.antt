@@ -17,7 +17,7 @@ use Rattle.pil_laws.proofs.Table.{sent-tuples}
 use Rattle.machine_text.specs.Out
 use Rattle.air_mem.specs.Access.{Access, memory_tuple}
 use Rattle.step_rows.specs.Words.{low, high}
-use Rattle.step_rows.specs.Initial.{Doubleword}
+use Rattle.step_rows.specs.declared.doubleword.Doubleword.{Doubleword}
 use Rattle.air_mem.specs.Constants.{OutConstants, of_initial}
 use Rattle.machine_text.specs.Mem
 use Rattle.machine_text.specs.Init

@@ -11,7 +11,7 @@ use Rattle.pil_ast.specs.Columns.{Columns}
 use Rattle.pil_ast.specs.Holds.{times, all_sent, AsOften}
 use Rattle.pil_laws.proofs.Times.{times_append, often_from_permutation}
 use Rattle.pil_laws.proofs.Sums.{times_both, times_single, times_more}
-use Rattle.step_rows.specs.Initial.{Doubleword}
+use Rattle.step_rows.specs.declared.doubleword.Doubleword.{Doubleword}
 use Rattle.air_mem.specs.Access.{Access, memory_tuple, InReach, HasLast, written, never, IsReadLastWrite, IsSequence}
 use Rattle.air_mem.specs.Constants.{OutConstants, InitConstants, out_key}
 use Rattle.machine_text.specs.Mem

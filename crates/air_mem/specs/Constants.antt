@@ -3,7 +3,8 @@ use Rattle.std.specs.Prelude.{◌^◌, All, ℕ, ◌+◌, ◌-◌, ◌*◌, ◌<
 use Rattle.pil_ast.specs.Columns.{Columns}
 use Rattle.pil_laws.specs.Joints.{Joints}
 use Rattle.step_rows.specs.Words.{low, high}
-use Rattle.step_rows.specs.Initial.{Doubleword, initial_doublewords}
+use Rattle.step_rows.specs.Initial.{initial_doublewords}
+use Rattle.step_rows.specs.declared.doubleword.Doubleword.{Doubleword}
 use Rattle.rv_model.specs.Image.{Img}
 use Rattle.zk_layout.specs.declared.namespace.Namespace.TheVariants as spaces
 use Rattle.fixed_cols.specs.declared.sizes.Sizes.{Sizes}

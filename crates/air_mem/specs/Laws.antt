@@ -13,7 +13,7 @@ use Rattle.machine_text.specs.Machine.{machine}
 use Rattle.machine_text.specs.Init
 use Rattle.machine_text.specs.Mem
 use Rattle.machine_text.specs.Out
-use Rattle.step_rows.specs.Initial.{Doubleword}
+use Rattle.step_rows.specs.declared.doubleword.Doubleword.{Doubleword}
 use Rattle.air_mem.specs.Access.{Access, memory_tuple, InReach, ComesBefore, IsReadLastWrite, IsSequence}
 use Rattle.air_mem.specs.Constants.{MemConstants, OutConstants, InitConstants}
 use Rattle.air_mem.specs.Lists.{bus_lists, all_accesses, initial_write, final_reads, read_access, IsShaped}

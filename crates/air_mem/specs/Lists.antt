@@ -7,7 +7,7 @@ use Rattle.machine_text.specs.Init
 use Rattle.machine_text.specs.Out
 use Rattle.air_mem.specs.Access.{Access}
 use Rattle.step_rows.specs.Words.{low, high}
-use Rattle.step_rows.specs.Initial.{Doubleword}
+use Rattle.step_rows.specs.declared.doubleword.Doubleword.{Doubleword}
 use Rattle.air_mem.specs.Constants.{out_key}
 
 -- an initial write, at time 0

@@ -13,36 +13,8 @@ use Rattle.rv_model.specs.Op.{bits_of}
 use Rattle.rv_model.specs.State.{wrapped}
 use Rattle.min_trace.specs.Operands.{compared_by}
 use Rattle.rv_model.specs.Code.{instr_of}
+use Rattle.step_rows.specs.declared.rom_row.RomRow.{RomRow}
 use Rattle.step_rows.specs.Words.{low, high, one_if}
-
--- the columns of a row but SEL
-pub record RomRow : Type 0 where
-  pub pc : ℕ
-  pub rs1 : ℕ
-  pub rs2 : ℕ
-  pub rd : ℕ
-  pub op : ℕ
-  -- the limbs of the second operand, where it is a constant, and those of JALR's link
-  pub ilo : ℕ
-  pub ihi : ℕ
-  pub klo : ℕ
-  pub khi : ℕ
-  -- where a jump or a branch goes
-  pub jt : ℕ
-  pub kind : ℕ
-  -- whether the second operand is a constant, and whether a register is written
-  pub bi : ℕ
-  pub wr : ℕ
-  pub ld : ℕ
-  pub st : ℕ
-  -- JALR, JAL, a branch, and whether the branch is taken where its flag is 0
-  pub jr : ℕ
-  pub jp : ℕ
-  pub br : ℕ
-  pub inv : ℕ
-  pub halt : ℕ
-  -- whether the first operand is rs1's low 32 bits alone
-  pub uw : ℕ
 
 -- whether a branch is taken where its comparison's flag is 0
 abbrev pub turned : Cond → ℕ
@@ -103,6 +75,10 @@ row_unless_break pc (Some i) = Some (rom_row pc i)
 abbrev pub row_at : Img → ℕ → Option RomRow
 row_at image pc = row_unless_break pc (instr_of (fetch image pc))
 
+-- how many words of four bytes memory has
+unfoldable pub words : ℕ
+words = 2 ^ 30
+
 -- all rows, in order of pc
 unfoldable pub rom_rows : Img → List RomRow
-rom_rows image = filter_map (λ k. row_at image (4 * k)) (range_with_len 0 (2 ^ 30))
+rom_rows image = filter_map (λ k. row_at image (4 * k)) (range_with_len 0 words)

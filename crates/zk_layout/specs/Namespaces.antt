@@ -1,5 +1,6 @@
 -- The machine's namespaces, in the order of the machine's text (docs/MACHINE.md).
-use Rattle.std.specs.Prelude.{ℕ}
+use Rattle.std.specs.Prelude.{ℕ, List, [], ◌∷◌}
+use Rattle.std.specs.List.{slice_index_or}
 use Rattle.zk_layout.specs.declared.air.Air.{Air}
 use Rattle.zk_layout.specs.declared.air.Air.TheVariants as airs
 use Rattle.zk_layout.specs.declared.namespace.Namespace.{Namespace}
@@ -30,3 +31,11 @@ namespace_of airs.Shift = Shift
 namespace_of airs.Arith = Arith
 namespace_of airs.Align = Align
 namespace_of airs.Out = Out
+
+-- the namespaces in the order of their numbers
+abbrev pub namespaces : List Namespace
+namespaces = Bit ∷ Range16 ∷ BinTab ∷ ShiftTab ∷ Rom ∷ Init ∷ Main ∷ Mem ∷ Out ∷ Align ∷ Binary ∷ Shift ∷ Arith ∷ []
+
+-- the namespace of a number below 13
+abbrev pub namespace_at : ℕ → Namespace
+namespace_at number = slice_index_or namespaces number Bit

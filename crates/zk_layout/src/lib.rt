@@ -8,7 +8,7 @@ mod namespace;
 
 pub use air::Air;
 pub use machine::machine_shape;
-pub use namespace::Namespace;
+pub use namespace::{Namespace, namespaces_by_number};
 
 #[cfg(test)]
 mod tests;

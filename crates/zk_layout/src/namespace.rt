@@ -1,6 +1,7 @@
 //! The namespaces of the machine's text.
 ghost use Rattle.std.specs.Prelude.{◌≡◌, ◌<◌};
-ghost use Rattle.zk_layout.specs.Namespaces.{namespace_number, namespace_of};
+ghost use Rattle.zk_layout.specs.Namespaces.{namespace_at, namespace_number, namespace_of};
+ghost use Rattle.zk_layout.specs.declared.namespace.Namespace.{Namespace};
 
 use crate::Air;
 
@@ -37,6 +38,31 @@ pub enum Namespace {
 }
 
 impl Namespace {
+    /// The namespaces in the order of their numbers.
+    pub const ALL: [Namespace; 13] = [
+        Namespace::Bit,
+        Namespace::Range16,
+        Namespace::BinTab,
+        Namespace::ShiftTab,
+        Namespace::Rom,
+        Namespace::Init,
+        Namespace::Main,
+        Namespace::Mem,
+        Namespace::Out,
+        Namespace::Align,
+        Namespace::Binary,
+        Namespace::Shift,
+        Namespace::Arith,
+    ];
+
+    /// The namespace of a number.
+    pub fn at(number: u32) -> Namespace
+        requires { number < 13 }
+        ensures { result ≡ namespace_at number }
+    {
+        Namespace::ALL[number as usize]
+    }
+
     /// The number by which an expression names it: its place in the machine's text, from 0 for Bit to 12
     /// for Arith.
     #[tactic(auto, unfolding(crate::specs::Namespaces::namespace_number))]
@@ -77,3 +103,8 @@ impl Namespace {
         }
     }
 }
+
+/// Each namespace stands at its number.
+pub fn namespaces_by_number()
+    ensures { (space : Namespace) → namespace_at (namespace_number space) ≡ space }
+{}

@@ -1,0 +1,4 @@
+pub mod Below
+pub mod Starts
+pub mod Zero
+pub mod Words

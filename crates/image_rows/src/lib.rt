@@ -1,0 +1,9 @@
+//! The rows that an image alone determines: those of Rom, and the doublewords of memory that aren't 0 when a run starts.
+//! They are found in the bytes of its file and its input, not in what is zero past them.
+#![tactic(auto)]
+
+mod initial;
+mod rom;
+
+pub use initial::initial_doublewords;
+pub use rom::rom_rows;
