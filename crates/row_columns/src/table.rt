@@ -1,0 +1,41 @@
+//! The table of a job.
+ghost use Rattle.std.specs.Prelude.{◌≡◌, ℕ, length, IfOk};
+ghost use Rattle.zk_layout.specs.Air.{columns_per};
+ghost use Rattle.step_rows.specs.Rows.{row_in};
+ghost use Rattle.run_rows.specs.Runs.{values_of, IsJobOf};
+ghost use Rattle.run_rows.specs.Tables.{table_of, rows_to};
+ghost use Rattle.row_columns.specs.Cells.{AreRowOf};
+
+use crate::columns::{Cell, columns_of};
+use gold::Table;
+use min_trace::Chunk;
+use planner::Job;
+use run_rows::{FromStep, gather};
+use rv_model::Image;
+use std::alloc::{AllocError, Global};
+use std::sync::Arc;
+
+/// The sequential table's instance that the job is, where the cells of what is taken of a step are the step's row.
+///
+/// # Errors
+///
+/// Memory ran out.
+pub fn table_of_job<T: FromStep + Drop, C: Cell<T>>(
+    alloc: Global,
+    image: &Image,
+    job: &Job,
+    chunks: &[Arc<Chunk>],
+    cells: &[C],
+) -> Result<Table, AllocError>
+    requires job { (n : ℕ) × IsJobOf image.now n job.now (values_of chunks.now) }
+    requires width { length cells.now ≡ columns_per job.now.air }
+    requires row { AreRowOf C.value T.taken cells.now job.now.air }
+    ensures { IfOk result (λ t. (n : ℕ) → IsJobOf image.now n job.now (values_of chunks.now) → t ≡ table_of job.now.air (columns_per job.now.air) job.now.instance (rows_to job.now.air (row_in job.now.air) image.now n)) }
+{
+    let items = gather::<T>(alloc, image, job, chunks)?;
+    Ok(Table {
+        air: job.air.number(),
+        instance: job.instance,
+        columns: columns_of(alloc, &items, cells, job.air.rows() as usize)?,
+    })
+}
