@@ -10,7 +10,7 @@ use crate::columns::{Cell, columns_of};
 use gold::Table;
 use min_trace::Chunk;
 use planner::Job;
-use run_rows::{FromStep, gather};
+use run_rows::{FromStep, gather, steps_of_a_job};
 use rv_model::Image;
 use std::alloc::{AllocError, Global};
 use std::sync::Arc;
@@ -29,9 +29,10 @@ pub fn table_of_job<T: FromStep + Drop, C: Cell<T>>(
 ) -> Result<Table, AllocError>
     requires job { (n : ℕ) × IsJobOf image.now n job.now (values_of chunks.now) }
     requires width { length cells.now ≡ columns_per job.now.air }
-    requires row { AreRowOf C.value T.taken cells.now job.now.air }
+    requires row { AreRowOf C.value T.taken cells.now job.now.air image.now }
     ensures { IfOk result (λ t. (n : ℕ) → IsJobOf image.now n job.now (values_of chunks.now) → t ≡ table_of job.now.air (columns_per job.now.air) job.now.instance (rows_to job.now.air (row_in job.now.air) image.now n)) }
 {
+    steps_of_a_job();
     let items = gather::<T>(alloc, image, job, chunks)?;
     Ok(Table {
         air: job.air.number(),
