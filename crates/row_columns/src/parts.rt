@@ -3,24 +3,28 @@ ghost use Rattle.std.specs.Prelude.{◌≡◌, ◌≤◌, ◌<◌, ◌==◌};
 ghost use Rattle.std.specs.Int.{byte_at};
 ghost use Rattle.step_rows.specs.Words.{digit, one_if};
 
-/// A byte of a number, from 0 for the lowest to 7.
+/// Byte i of a number, where byte 0 is the lowest; 0 past the highest.
 #[inline(always)]
+#[tactic(auto, using(crate::proofs::Shifts::parts))]
 pub fn byte(v: u64, i: u32) -> u64
-    requires { i < 8 }
     ensures value { result ≡ byte_at i v }
     ensures below { result < 256 }
 {
-    (v >> (8 * i)) & 0xff
+    if i < 8 { (v >> (8 * i)) & 0xff } else { 0 }
 }
 
-/// A digit of 16 bits of a number, from 0 for the lowest to 3.
+/// Digit i of 16 bits of a number, where digit 0 is the lowest; 0 past the highest.
 #[inline(always)]
+#[tactic(auto, using(crate::proofs::Shifts::parts))]
 pub fn digit(v: u64, i: u32) -> u64
-    requires { i < 4 }
     ensures value { result ≡ digit v i }
     ensures below { result < 65536 }
 {
-    (v >> (16 * i)) & 0xffff
+    if i < 4 {
+        (v >> (16 * i)) & 0xffff
+    } else {
+        0
+    }
 }
 
 /// 1 where the number is this, else 0.

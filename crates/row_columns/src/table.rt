@@ -1,10 +1,8 @@
 //! The table of a job.
 ghost use Rattle.std.specs.Prelude.{◌≡◌, ℕ, length, IfOk};
 ghost use Rattle.zk_layout.specs.Air.{columns_per};
-ghost use Rattle.step_rows.specs.Rows.{row_in};
 ghost use Rattle.run_rows.specs.Runs.{values_of, IsJobOf};
-ghost use Rattle.run_rows.specs.Tables.{table_of, rows_to};
-ghost use Rattle.row_columns.specs.Cells.{AreRowOf};
+ghost use Rattle.row_columns.specs.Cells.{AreRowOf, IsTableOf};
 
 use crate::columns::{Cell, columns_of};
 use gold::Table;
@@ -30,7 +28,7 @@ pub fn table_of_job<T: FromStep + Drop, C: Cell<T>>(
     requires job { (n : ℕ) × IsJobOf image.now n job.now (values_of chunks.now) }
     requires width { length cells.now ≡ columns_per job.now.air }
     requires row { AreRowOf C.value T.taken cells.now job.now.air image.now }
-    ensures { IfOk result (λ t. (n : ℕ) → IsJobOf image.now n job.now (values_of chunks.now) → t ≡ table_of job.now.air (columns_per job.now.air) job.now.instance (rows_to job.now.air (row_in job.now.air) image.now n)) }
+    ensures { IfOk result (IsTableOf job.now.air image.now job.now (values_of chunks.now)) }
 {
     steps_of_a_job();
     let items = gather::<T>(alloc, image, job, chunks)?;
