@@ -48,13 +48,15 @@ module _ (ops : List OpNo) (first : ℕ) (numbered : (k : ℕ) → k < length op
 
 -- the tuple with these entries is that of an operation of Arith
 pub is_operation : (number alo ahi blo bhi clo chi flag : ℕ) → IsOf products_and_quotients number alo ahi blo bhi clo chi flag → IsOperationOf airs.Arith (number ∷ alo ∷ ahi ∷ blo ∷ bhi ∷ clo ∷ chi ∷ flag ∷ [])
-is_operation number alo ahi blo bhi clo chi flag w =
-    (record {
-      o = w.o;
-      a = w.a;
-      b = w.b;
-      a_fits = fits _ _ _ w.first;
-      b_fits = fits _ _ _ w.second;
-      value_fits = fits _ _ _ w.value;
-      is = λ i. w.number_is i ∷ low_of _ _ _ w.first i ∷ high_of _ _ _ w.first i ∷ low_of _ _ _ w.second i ∷ high_of _ _ _ w.second i ∷ low_of _ _ _ w.value i ∷ high_of _ _ _ w.value i ∷ w.flag_is i ∷ [];
-    }, in_air w.o w.here)
+is_operation number alo ahi blo bhi clo chi flag w = (
+  record {
+    o = w.o;
+    a = w.a;
+    b = w.b;
+    a_fits = fits _ _ _ w.first;
+    b_fits = fits _ _ _ w.second;
+    value_fits = fits _ _ _ w.value;
+    is = λ i. w.number_is i ∷ low_of _ _ _ w.first i ∷ high_of _ _ _ w.first i ∷ low_of _ _ _ w.second i ∷ high_of _ _ _ w.second i ∷ low_of _ _ _ w.value i ∷ high_of _ _ _ w.value i ∷ w.flag_is i ∷ [];
+  },
+  in_air w.o w.here,
+)

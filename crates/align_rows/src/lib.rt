@@ -5,4 +5,3 @@ mod cells;
 mod expansion;
 
 pub use expansion::expand;
-

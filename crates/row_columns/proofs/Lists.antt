@@ -30,14 +30,14 @@ by_cells : {C X : Type 0} (n : ℕ) (v : C → X → ℕ) (cells : List C) (xs :
 by_cells n v [] xs = refl
 by_cells n v (c ∷ cs) xs =
     ap (λ zs. padded n (map (v c) xs) ∷ zs)
-      (shifted (λ k. padded n (map (λ x. get_or (map (λ d. v d x) (c ∷ cs)) k 0) xs)) 0 (length cs)
-      ∙ map_same (λ k. padded n (map (λ x. get_or (map (λ d. v d x) (c ∷ cs)) (k + 1) 0) xs)) (λ k. padded n (map (λ x. get_or (map (λ d. v d x) cs) k 0) xs)) (λ k. one_later n v c cs xs k (k + 1) (omega arith)) (range_with_len 0 (length cs))
-      ∙ by_cells n v cs xs)
+    (shifted (λ k. padded n (map (λ x. get_or (map (λ d. v d x) (c ∷ cs)) k 0) xs)) 0 (length cs)
+    ∙ map_same (λ k. padded n (map (λ x. get_or (map (λ d. v d x) (c ∷ cs)) (k + 1) 0) xs)) (λ k. padded n (map (λ x. get_or (map (λ d. v d x) cs) k 0) xs)) (λ k. one_later n v c cs xs k (k + 1) (omega arith)) (range_with_len 0 (length cs))
+    ∙ by_cells n v cs xs)
 
 -- the columns of rows that the cells are
 pub columns_are : {C X : Type 0} (n width : ℕ) (v : C → X → ℕ) (row : X → List ℕ) (cells : List C) (xs : List X) → length cells ≡ width → All (λ x. map (λ d. v d x) cells ≡ row x) xs → filled v n cells xs ≡ by_columns width n (map row xs)
 columns_are n width v row cells xs e h =
     sym (by_cells n v cells xs)
     ∙ map_same (λ k. padded n (map (λ x. get_or (map (λ d. v d x) cells) k 0) xs)) (λ k. padded n (map (λ r. get_or r k 0) (map row xs)))
-        (λ k. ap (padded n) (sym (map_map (λ r. get_or r k 0) (λ x. map (λ d. v d x) cells) xs) ∙ ap (map (λ r. get_or r k 0)) (map_alike (λ x. map (λ d. v d x) cells) row xs h))) (range_with_len 0 (length cells))
+    (λ k. ap (padded n) (sym (map_map (λ r. get_or r k 0) (λ x. map (λ d. v d x) cells) xs) ∙ ap (map (λ r. get_or r k 0)) (map_alike (λ x. map (λ d. v d x) cells) row xs h))) (range_with_len 0 (length cells))
     ∙ ap (λ m. by_columns m n (map row xs)) e

@@ -20,11 +20,7 @@ pub fn digit(v: u64, i: u32) -> u64
     ensures value { result ≡ digit v i }
     ensures below { result < 65536 }
 {
-    if i < 4 {
-        (v >> (16 * i)) & 0xffff
-    } else {
-        0
-    }
+    if i < 4 { (v >> (16 * i)) & 0xffff } else { 0 }
 }
 
 /// 1 where the number is this, else 0.

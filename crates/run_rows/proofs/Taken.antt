@@ -58,4 +58,4 @@ job_records law rows image n j chunks is = subst (λ (rs : List StepRecord). All
 pub with_rows : (air : Air) (image : Img) (n i : ℕ) → All (λ r. has_row air r ≡ true) (steps_of air image n i)
 with_rows air image n i =
     All-take (λ r. has_row air r ≡ true) (rows_per air) (drop (i * rows_per air) (records_of air image n))
-      (All-drop (λ r. has_row air r ≡ true) (i * rows_per air) (records_of air image n) (filter_passes (has_row air) (records_between image 0 n)))
+    (All-drop (λ r. has_row air r ≡ true) (i * rows_per air) (records_of air image n) (filter_passes (has_row air) (records_between image 0 n)))
