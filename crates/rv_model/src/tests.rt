@@ -2,8 +2,8 @@
 ghost use Rattle.std.specs.Prelude.{◌≡◌, ◌%◌, ◌≤◌};
 
 use crate::{
-    Image, PlainCpu, Ran, RunEnd, RunFault, Segment, StepAnswer, align, byte_machine, bytes_law, op,
-    run,
+    Image, PlainCpu, Ran, RunEnd, RunFault, Segment, StepAnswer, align, byte_machine, bytes_law,
+    op, run,
 };
 use rv_word::{Instr, Kind, OpNo};
 use std::alloc::{AllocError, Global};
