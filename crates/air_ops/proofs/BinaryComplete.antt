@@ -1,6 +1,7 @@
 -- The row of an operation meets the lines of Binary.
 use Rattle.std.proofs.Common.{lit<, ℕ, suc, ◌+◌, ◌-◌, ◌*◌, ◌%◌, ◌/◌, ◌^◌, ◌<◌, ◌≤◌, ◌≡◌, ◌≢◌, inl, inr, Bool, true, false, cond, eqb, ltb, bit_and, get_or, map, List, [], ◌∷◌, ◌++◌, refl, ap, subst, sym, ◌∙◌, arith}
-use Rattle.std.specs.Prelude.{slice_index}
+use Rattle.std.specs.Prelude.{slice_index, sum}
+use Rattle.std.specs.Int.{to_le_bytes, w64}
 use Rattle.std.proofs.lemmas.Bool.{ltb-true, cases_eq}
 use Rattle.std.proofs.lemmas.List.{get_or_default}
 use Rattle.std.proofs.lemmas.Bool.Decides.{nat_tests}
@@ -20,16 +21,24 @@ use Rattle.rv_word.specs.declared.instr.OpNo.TheVariants as ops
 use Rattle.rv_word.specs.Numbers.{op_number}
 use Rattle.machine_text.specs.Binary.{space, items, sel, operation}
 use Rattle.zk_layout.specs.declared.air.Air.TheVariants as airs
+use Rattle.air_ops.proofs.Pairs.{◌▸◌}
 use Rattle.air_ops.proofs.Airs.{operations, of_binary}
 use Rattle.step_rows.specs.Words.{one_if, flags as flags_of}
 use Rattle.step_rows.specs.Tuples.{op_tuple}
-use Rattle.step_rows.specs.BinaryRow.{binary_row, worked, subtracts, low_carry, high_carry, low_borrow, high_borrow}
+use Rattle.step_rows.specs.BinaryRow.{binary_row, worked, subtracts, scales, factor, tells, left_over, low_carry, high_carry, low_borrow, high_borrow}
 use Rattle.air_ops.specs.Tables.{Meets, HasRow}
 use Rattle.air_ops.specs.Binary.{HasBinary, AllowsPadding, IsComplete}
 
 pub binary_padding : AllowsPadding
 binary_padding ns c i r has z =
     all_hold ns c 10 i r space has.stands items refl (all_said ns c has.tables (row_at items ns c 10 i r ((0, is 0) ∷ []) has.in_field (z, tt)) sel items small tt)
+
+-- two limbs that are those of a number
+whole_of : (v lo hi : ℕ) → lo ≡ v % 4294967296 → hi ≡ v / 4294967296 → joined lo hi ≡ v
+whole_of v lo hi e g = omega arith
+
+set_on : (x : ℕ) → x ≡ 1 → x ≢ 0
+set_on x e z = omega arith
 
 -- columns that have the values of a list
 abbrev pub exactly_from : ℕ → List ℕ → List (ℕ × Fact)
@@ -71,7 +80,7 @@ few_4 x v h e = omega arith
 few_8 : (x v : ℕ) → x ≡ (0 + v % 256 + v / 256 % 256 + v / 65536 % 256 + v / 16777216 % 256 + v / 4294967296 % 256 + v / 1099511627776 % 256 + v / 281474976710656 % 256 + v / 72057594037927936 % 256 - 1) / 65536 → x ≤ 65535
 few_8 x v e = omega arith
 
-few : (x m : ℕ) → x ≤ m → m ≤ 65535 → x ≤ 65535
+few : (x m : ℕ) → x ≤ m → m ≤ 8 → x ≤ 65535
 few x m h k = omega arith
 
 -- what the operations have in the other columns
@@ -113,6 +122,9 @@ module _ (ns : List Namespace) (c : Columns) (i r : ℕ) (has : HasBinary ns c) 
   abbrev Line : Type 0 → Type 0
   Line P = P × (true ≡ true)
 
+  by_line : {P : Type 0} → P → Line P
+  by_line h = (h, refl)
+
   abbrev Needed : Type 0 → Type 0
   Needed X = Anded 0 × (Anded 1 × (Anded 2 × (Anded 3 × (Anded 4 × (Anded 5 × (Anded 6 × (Anded 7 × (Line (f 23 ≡ 128 * f 48 + f 49) × (Line (f 31 ≡ 128 * f 50 + f 51) × (Line (f 41 ≡ 32768 * f 52 + f 53) × X))))))))))
 
@@ -142,106 +154,13 @@ module _ (ns : List Namespace) (c : Columns) (i r : ℕ) (has : HasBinary ns c) 
     zh_is = high_halves _ _ (worked o a b) (worked_fits o a b) (at 42 refl) (at 43 refl)
 
     met : AllMeet bounded f
-    met = (
-      at 0 refl,
-      (
-        byte_le _ a (at 16 refl),
-        (
-          byte_le _ _ (at 17 refl),
-          (
-            byte_le _ _ (at 18 refl),
-            (
-              byte_le _ _ (at 19 refl),
-              (
-                byte_le _ _ (at 20 refl),
-                (
-                  byte_le _ _ (at 21 refl),
-                  (
-                    byte_le _ _ (at 22 refl),
-                    (
-                      byte_le _ _ (at 23 refl),
-                      (
-                        byte_le _ b (at 24 refl),
-                        (
-                          byte_le _ _ (at 25 refl),
-                          (
-                            byte_le _ _ (at 26 refl),
-                            (
-                              byte_le _ _ (at 27 refl),
-                              (
-                                byte_le _ _ (at 28 refl),
-                                (
-                                  byte_le _ _ (at 29 refl),
-                                  (
-                                    byte_le _ _ (at 30 refl),
-                                    (
-                                      byte_le _ _ (at 31 refl),
-                                      (
-                                        half_le _ _ (at 40 refl),
-                                        (
-                                          half_le _ _ (at 41 refl),
-                                          (
-                                            half_le _ _ (at 42 refl),
-                                            (
-                                              half_le _ _ (at 43 refl),
-                                              (sign_le _ a (at 48 refl) la, (seven_le _ _ (at 49 refl), (sign_le _ b (at 50 refl) lb, (seven_le _ _ (at 51 refl), (bit_le _ _ (at 52 refl), (fifteen_le _ _ (at 53 refl), tt)))))),
-                                            ),
-                                          ),
-                                        ),
-                                      ),
-                                    ),
-                                  ),
-                                ),
-                              ),
-                            ),
-                          ),
-                        ),
-                      ),
-                    ),
-                  ),
-                ),
-              ),
-            ),
-          ),
-        ),
-      ),
-    )
+    met = at 0 refl ▸ byte_le _ a (at 16 refl) ▸ byte_le _ _ (at 17 refl) ▸ byte_le _ _ (at 18 refl) ▸ byte_le _ _ (at 19 refl) ▸ byte_le _ _ (at 20 refl) ▸ byte_le _ _ (at 21 refl) ▸ byte_le _ _ (at 22 refl) ▸ byte_le _ _ (at 23 refl) ▸ byte_le _ b (at 24 refl) ▸ byte_le _ _ (at 25 refl) ▸ byte_le _ _ (at 26 refl) ▸ byte_le _ _ (at 27 refl) ▸ byte_le _ _ (at 28 refl) ▸ byte_le _ _ (at 29 refl) ▸ byte_le _ _ (at 30 refl) ▸ byte_le _ _ (at 31 refl) ▸ half_le _ _ (at 40 refl) ▸ half_le _ _ (at 41 refl) ▸ half_le _ _ (at 42 refl) ▸ half_le _ _ (at 43 refl) ▸ sign_le _ a (at 48 refl) la ▸ seven_le _ _ (at 49 refl) ▸ sign_le _ b (at 50 refl) lb ▸ seven_le _ _ (at 51 refl) ▸ bit_le _ _ (at 52 refl) ▸ fifteen_le _ _ (at 53 refl) ▸ tt
 
     one_anded : (k : ℕ) (u v : ℕ) → f (16 + k) ≡ u → f (24 + k) ≡ v → f (32 + k) ≡ bit_and u v → f (16 + k) ≤ 255 → f (24 + k) ≤ 255 → Anded k
     one_anded k u v e g h l m = (anded _ _ _ u v e g h l m, tt)
 
     needed : {X : Type 0} → X → Needed X
-    needed x = (
-      one_anded 0 _ _ (at 16 refl) (at 24 refl) (at 32 refl) (byte_le _ a (at 16 refl)) (byte_le _ b (at 24 refl)),
-      (
-        one_anded 1 _ _ (at 17 refl) (at 25 refl) (at 33 refl) (byte_le _ _ (at 17 refl)) (byte_le _ _ (at 25 refl)),
-        (
-          one_anded 2 _ _ (at 18 refl) (at 26 refl) (at 34 refl) (byte_le _ _ (at 18 refl)) (byte_le _ _ (at 26 refl)),
-          (
-            one_anded 3 _ _ (at 19 refl) (at 27 refl) (at 35 refl) (byte_le _ _ (at 19 refl)) (byte_le _ _ (at 27 refl)),
-            (
-              one_anded 4 _ _ (at 20 refl) (at 28 refl) (at 36 refl) (byte_le _ _ (at 20 refl)) (byte_le _ _ (at 28 refl)),
-              (
-                one_anded 5 _ _ (at 21 refl) (at 29 refl) (at 37 refl) (byte_le _ _ (at 21 refl)) (byte_le _ _ (at 29 refl)),
-                (
-                  one_anded 6 _ _ (at 22 refl) (at 30 refl) (at 38 refl) (byte_le _ _ (at 22 refl)) (byte_le _ _ (at 30 refl)),
-                  (
-                    one_anded 7 _ _ (at 23 refl) (at 31 refl) (at 39 refl) (byte_le _ _ (at 23 refl)) (byte_le _ _ (at 31 refl)),
-                    (
-                      (top_byte _ _ _ a la (at 23 refl) (at 48 refl) (at 49 refl), refl),
-                      (
-                        (top_byte _ _ _ b lb (at 31 refl) (at 50 refl) (at 51 refl), refl),
-                        ((top_half _ _ _ (worked o a b) (at 41 refl) (at 52 refl) (at 53 refl), refl), x),
-                      ),
-                    ),
-                  ),
-                ),
-              ),
-            ),
-          ),
-        ),
-      ),
-    )
+    needed x = one_anded 0 _ _ (at 16 refl) (at 24 refl) (at 32 refl) (byte_le _ a (at 16 refl)) (byte_le _ b (at 24 refl)) ▸ one_anded 1 _ _ (at 17 refl) (at 25 refl) (at 33 refl) (byte_le _ _ (at 17 refl)) (byte_le _ _ (at 25 refl)) ▸ one_anded 2 _ _ (at 18 refl) (at 26 refl) (at 34 refl) (byte_le _ _ (at 18 refl)) (byte_le _ _ (at 26 refl)) ▸ one_anded 3 _ _ (at 19 refl) (at 27 refl) (at 35 refl) (byte_le _ _ (at 19 refl)) (byte_le _ _ (at 27 refl)) ▸ one_anded 4 _ _ (at 20 refl) (at 28 refl) (at 36 refl) (byte_le _ _ (at 20 refl)) (byte_le _ _ (at 28 refl)) ▸ one_anded 5 _ _ (at 21 refl) (at 29 refl) (at 37 refl) (byte_le _ _ (at 21 refl)) (byte_le _ _ (at 29 refl)) ▸ one_anded 6 _ _ (at 22 refl) (at 30 refl) (at 38 refl) (byte_le _ _ (at 22 refl)) (byte_le _ _ (at 30 refl)) ▸ one_anded 7 _ _ (at 23 refl) (at 31 refl) (at 39 refl) (byte_le _ _ (at 23 refl)) (byte_le _ _ (at 31 refl)) ▸ by_line (top_byte _ _ _ a la (at 23 refl) (at 48 refl) (at 49 refl)) ▸ by_line (top_byte _ _ _ b lb (at 31 refl) (at 50 refl) (at 51 refl)) ▸ by_line (top_half _ _ _ (worked o a b) (at 41 refl) (at 52 refl) (at 53 refl)) ▸ x
 
     rowed : (k : ℕ) (es : List (ℕ × Fact)) → AllMeet (flags k 1 15) f → AllMeet es f → Row items (around ns c 10 i r) 10 (here (flags k 1 15 ++ (es ++ bounded)))
     rowed k es h j = knowing (flags k 1 15) h (knowing es j (row_at items ns c 10 i r bounded has.in_field met))
@@ -249,217 +168,149 @@ module _ (ns : List Namespace) (c : Columns) (i r : ℕ) (has : HasBinary ns c) 
     holds : (k : ℕ) (es : List (ℕ × Fact)) → AllMeet (flags k 1 15) f → AllMeet es f → Rest items (around ns c 10 i r) 10 (here (flags k 1 15 ++ (es ++ bounded))) (sent ns c) items → Meets ns c i r items
     holds k es h j rest = all_hold ns c 10 i r space has.stands items refl (all_said ns c has.tables (rowed k es h j) sel items small rest)
 
-    -- the lines of a sum, of a sum with a factor and of a difference
-    summed : worked o a b ≡ (1 * a + b) % 2 ^ 64 → f 44 ≡ low_carry 1 a b → f 45 ≡ high_carry 1 a b → (al + bl ≡ zl + 4294967296 * f 44) × (ah + bh + f 44 ≡ zh + 4294967296 * f 45)
-    summed e g h = (low_sum_line a b _ _ _ _ al_is bl_is (zl_is ∙ ap (λ z. z % 4294967296) e) g, high_sum_line a b _ _ _ _ _ ah_is bh_is (zh_is ∙ ap (λ z. z / 4294967296) e) g h)
+    -- what the lines of a selected row say of it
+    abbrev Law : ℕ → Type 0
+    Law k = (m : Meets ns c i r items) (on : f 0 ≢ 0) → AllMeet (flags k 1 15) f → IsOp ns c i r has m on o
 
-    scaled : (m : ℕ) → worked o a b ≡ (m * a + b) % 2 ^ 64 → f 46 ≡ low_carry m a b → f 47 ≡ high_carry m a b → (m * al + bl ≡ zl + 4294967296 * f 46) × (m * ah + bh + f 46 ≡ zh + 4294967296 * f 47)
-    scaled m e g h = (low_scaled_line m a b _ _ _ _ al_is bl_is (zl_is ∙ ap (λ z. z % 4294967296) e) g, high_scaled_line m a b _ _ _ _ _ ah_is bh_is (zh_is ∙ ap (λ z. z / 4294967296) e) g h)
+    abbrev Whole : Type 0
+    Whole = Meets ns c i r items × (tuple ns c 10 i r operation.terms ≡ op_tuple o a b)
 
-    differing : worked o a b ≡ (a + (2 ^ 64 - b)) % 2 ^ 64 → f 44 ≡ low_borrow a b → f 45 ≡ high_borrow a b → (bl + zl ≡ al + 4294967296 * f 44) × (bh + zh + f 44 ≡ ah + 4294967296 * f 45)
-    differing e g h = (low_difference_line a b _ _ _ _ la lb al_is bl_is (zl_is ∙ ap (λ z. z % 4294967296) e) g, high_difference_line a b _ _ _ _ _ la lb ah_is bh_is (zh_is ∙ ap (λ z. z / 4294967296) e) g h)
+    -- the lines, with the tuple that they then give
+    whole : (k : ℕ) → AllMeet (flags k 1 15) f → Meets ns c i r items → Law k → Whole
+    whole k h m law =
+        let on : f 0 ≢ 0 = set_on (f 0) (at 0 refl) in
+        (m, tuple_is ns c i r has m on ∙ (law m on h).1 ∙ (λ j. op_tuple o (whole_of a al ah al_is ah_is j) (whole_of b bl bh bl_is bh_is j)))
 
-    -- two lines more, and three
-    two : {P Q : Type 0} → P × Q → Needed (Line P × (Line Q × Unit {0}))
-    two h = needed ((h.0, refl), ((h.1, refl), tt))
+    -- the kinds of operations: those that add, those that add a multiple of a, those that subtract; and those that leave `eq` 0
+    abbrev Adds : Type 0
+    Adds = (subtracts o ≡ false) × (scales o ≡ false) × (factor o ≡ 1)
 
-    three : {P Q R : Type 0} → P × Q → R → Needed (Line P × (Line Q × (Line R × Unit {0})))
-    three h e = needed ((h.0, refl), ((h.1, refl), ((e, refl), tt)))
+    abbrev Scales : ℕ → Type 0
+    Scales m = (subtracts o ≡ false) × (scales o ≡ true) × (factor o ≡ m)
 
-    -- the other columns of most operations
-    plain_met : f 44 ≤ 1 → f 45 ≤ 1 → f 46 ≡ 0 → f 47 ≡ 0 → f 54 ≡ 0 → f 55 ≡ 0 → f 56 ≡ 0 → AllMeet plain f
-    plain_met a b c d e g h = (a, (b, (c, (d, (e, (g, (h, tt)))))))
+    abbrev Subtracts : Type 0
+    Subtracts = (subtracts o ≡ true) × (scales o ≡ false)
 
-    scaled_met : f 46 ≤ 65535 → f 47 ≤ 65535 → f 44 ≡ 0 → f 45 ≡ 0 → f 54 ≡ 0 → f 55 ≡ 0 → f 56 ≡ 0 → AllMeet with_factor f
-    scaled_met a b c d e g h = (a, (b, (c, (d, (e, (g, (h, tt)))))))
+    abbrev Quiet : Type 0
+    Quiet = (tells o a b ≡ 0) × (left_over o a b ≡ 0)
 
-    -- and of those with `eq`
-    telling_met : (v : ℕ) → f 44 ≤ 1 → f 45 ≤ 1 → f 46 ≡ 0 → f 47 ≡ 0 → f 54 ≡ v → f 55 ≤ 65535 → f 56 ≤ 65535 → AllMeet (telling v) f
-    telling_met v a b c d e g h = (a, (b, (c, (d, (e, (g, (h, tt)))))))
+    -- their carries and borrows
+    low_k : Adds → f 44 ≡ low_carry 1 a b
+    low_k e = at 44 refl ∙ ap (λ t. cond t (low_borrow a b) (cond (scales o) 0 (low_carry 1 a b))) e.0 ∙ ap (λ t. cond t 0 (low_carry 1 a b)) e.1
 
-    carry_0 : f 44 ≡ low_carry 1 a b → f 44 ≤ 1
-    carry_0 e = carry_le _ 1 a b (lit< tt) e
+    high_k : Adds → f 45 ≡ high_carry 1 a b
+    high_k e = at 45 refl ∙ ap (λ t. cond t (high_borrow a b) (cond (scales o) 0 (high_carry 1 a b))) e.0 ∙ ap (λ t. cond t 0 (high_carry 1 a b)) e.1
 
-    carry_1 : f 45 ≡ high_carry 1 a b → f 45 ≤ 1
-    carry_1 e = high_carry_le _ 1 a b (lit< tt) la lb e
+    no_j : scales o ≡ false → (f 46 ≡ 0) × (f 47 ≡ 0)
+    no_j e = (at 46 refl ∙ ap (λ t. cond t (low_carry (factor o) a b) 0) e, at 47 refl ∙ ap (λ t. cond t (high_carry (factor o) a b) 0) e)
 
-  pub add_holds : HasRow c 10 i r (binary_row ops.Add a b) → Meets ns c i r items
+    low_b : Subtracts → f 44 ≡ low_borrow a b
+    low_b e = at 44 refl ∙ ap (λ t. cond t (low_borrow a b) (cond (scales o) 0 (low_carry 1 a b))) e.0
+
+    high_b : Subtracts → f 45 ≡ high_borrow a b
+    high_b e = at 45 refl ∙ ap (λ t. cond t (high_borrow a b) (cond (scales o) 0 (high_carry 1 a b))) e.0
+
+    no_k : (m : ℕ) → Scales m → (f 44 ≡ 0) × (f 45 ≡ 0)
+    no_k m e =
+        (at 44 refl ∙ ap (λ t. cond t (low_borrow a b) (cond (scales o) 0 (low_carry 1 a b))) e.0 ∙ ap (λ t. cond t 0 (low_carry 1 a b)) e.1,
+        at 45 refl ∙ ap (λ t. cond t (high_borrow a b) (cond (scales o) 0 (high_carry 1 a b))) e.0 ∙ ap (λ t. cond t 0 (high_carry 1 a b)) e.1)
+
+    low_j : (m : ℕ) → Scales m → f 46 ≡ low_carry m a b
+    low_j m e = at 46 refl ∙ ap (λ t. cond t (low_carry (factor o) a b) 0) e.1 ∙ ap (λ m. low_carry m a b) e.2
+
+    high_j : (m : ℕ) → Scales m → f 47 ≡ high_carry m a b
+    high_j m e = at 47 refl ∙ ap (λ t. cond t (high_carry (factor o) a b) 0) e.1 ∙ ap (λ m. high_carry m a b) e.2
+
+    quiet : Quiet → (f 54 ≡ 0) × (f 55 ≡ 0) × (f 56 ≡ 0)
+    quiet q = (at 54 refl ∙ q.0, at 55 refl ∙ ap (λ z. z % 65536) q.1, at 56 refl ∙ ap (λ z. z / 65536) q.1)
+
+    -- lines 123 and 124 of each kind
+    sum_is : subtracts o ≡ false → (m : ℕ) → factor o ≡ m → worked o a b ≡ (m * a + b) % 2 ^ 64
+    sum_is e m g = ap (λ t. cond t ((a + (2 ^ 64 - b)) % 2 ^ 64) ((factor o * a + b) % 2 ^ 64)) e ∙ ap (λ m. (m * a + b) % 2 ^ 64) g
+
+    summed : {X : Type 0} → Adds → X → Needed (Line (al + bl ≡ zl + 4294967296 * f 44) × (Line (ah + bh + f 44 ≡ zh + 4294967296 * f 45) × X))
+    summed e x =
+        let w = sum_is e.0 1 e.2 in
+        needed (by_line (low_sum_line a b _ _ _ _ al_is bl_is (zl_is ∙ ap (λ z. z % 4294967296) w) (low_k e)) ▸ by_line (high_sum_line a b _ _ _ _ _ ah_is bh_is (zh_is ∙ ap (λ z. z / 4294967296) w) (low_k e) (high_k e)) ▸ x)
+
+    scaled : (m : ℕ) → Scales m → Needed (Line (m * al + bl ≡ zl + 4294967296 * f 46) × (Line (m * ah + bh + f 46 ≡ zh + 4294967296 * f 47) × Unit {0}))
+    scaled m e =
+        let w = sum_is e.0 m e.2 in
+        needed (by_line (low_scaled_line m a b _ _ _ _ al_is bl_is (zl_is ∙ ap (λ z. z % 4294967296) w) (low_j m e)) ▸ by_line (high_scaled_line m a b _ _ _ _ _ ah_is bh_is (zh_is ∙ ap (λ z. z / 4294967296) w) (low_j m e) (high_j m e)) ▸ tt)
+
+    differing : {X : Type 0} → Subtracts → X → Needed (Line (bl + zl ≡ al + 4294967296 * f 44) × (Line (bh + zh + f 44 ≡ ah + 4294967296 * f 45) × X))
+    differing e x =
+        let w : worked o a b ≡ (a + (2 ^ 64 - b)) % 2 ^ 64 = ap (λ t. cond t ((a + (2 ^ 64 - b)) % 2 ^ 64) ((factor o * a + b) % 2 ^ 64)) e.0 in
+        needed (by_line (low_difference_line a b _ _ _ _ la lb al_is bl_is (zl_is ∙ ap (λ z. z % 4294967296) w) (low_b e)) ▸ by_line (high_difference_line a b _ _ _ _ _ la lb ah_is bh_is (zh_is ∙ ap (λ z. z / 4294967296) w) (low_b e) (high_b e)) ▸ x)
+
+    -- The whole of each kind's operations: `rest` tells that these lines are what the flags leave open.
+    abbrev Open : ℕ → List (ℕ × Fact) → Type 0
+    Open k es = Rest items (around ns c 10 i r) 10 (here (flags k 1 15 ++ (es ++ bounded))) (sent ns c) items
+
+    adds : (k : ℕ) → Adds → Quiet → AllMeet (flags k 1 15) f → (Needed (Line (al + bl ≡ zl + 4294967296 * f 44) × (Line (ah + bh + f 44 ≡ zh + 4294967296 * f 45) × Unit {0})) → Open k plain) → Law k → Whole
+    adds k e q h rest law =
+        let u = quiet q in
+        whole k h (holds k plain h (carry_le _ 1 a b (lit< tt) (low_k e) ▸ high_carry_le _ 1 a b (lit< tt) la lb (high_k e) ▸ (no_j e.1).0 ▸ (no_j e.1).1 ▸ u.0 ▸ u.1 ▸ u.2 ▸ tt) (rest (summed e tt))) law
+
+    subtract : (k : ℕ) → Subtracts → Quiet → AllMeet (flags k 1 15) f → (Needed (Line (bl + zl ≡ al + 4294967296 * f 44) × (Line (bh + zh + f 44 ≡ ah + 4294967296 * f 45) × Unit {0})) → Open k plain) → Law k → Whole
+    subtract k e q h rest law =
+        let u = quiet q in
+        whole k h (holds k plain h (one_le _ _ (low_b e) ▸ one_le _ _ (high_b e) ▸ (no_j e.1).0 ▸ (no_j e.1).1 ▸ u.0 ▸ u.1 ▸ u.2 ▸ tt) (rest (differing e tt))) law
+
+    scale : (k m : ℕ) → m ≤ 8 → Scales m → Quiet → AllMeet (flags k 1 15) f → (Needed (Line (m * al + bl ≡ zl + 4294967296 * f 46) × (Line (m * ah + bh + f 46 ≡ zh + 4294967296 * f 47) × Unit {0})) → Open k with_factor) → Law k → Whole
+    scale k m l e q h rest law =
+        let u = quiet q in
+        whole k h (holds k with_factor h (few _ m (carry_le _ m a b l (low_j m e)) l ▸ few _ m (high_carry_le _ m a b l la lb (high_j m e)) l ▸ (no_k m e).0 ▸ (no_k m e).1 ▸ u.0 ▸ u.1 ▸ u.2 ▸ tt) (rest (scaled m e))) law
+
+    -- the conditional zeros: `eq` tells whether b is 0
+    abbrev Tested : Type 0 → Type 0
+    Tested P = Needed (Line (al + bl ≡ zl + 4294967296 * f 44) × (Line (ah + bh + f 44 ≡ zh + 4294967296 * f 45) × (Line P × Unit {0})))
+
+    zeroes : (k : ℕ) → Adds → tells o a b ≡ one_if (eqb b 0) → left_over o a b ≡ sum (to_le_bytes w64 b) - 1 → AllMeet (flags k 1 15) f → (Tested (f 24 + f 25 + f 26 + f 27 + f 28 + f 29 + f 30 + f 31 ≡ 0) → Open k (telling 1)) → (Tested (f 24 + f 25 + f 26 + f 27 + f 28 + f 29 + f 30 + f 31 ≡ 1 + halves f 55) → Open k (telling 0)) → Law k → Whole
+    zeroes k e t v h one none law =
+        let low : f 55 ≡ (sum (to_le_bytes w64 b) - 1) % 65536 = at 55 refl ∙ ap (λ z. z % 65536) v in
+        let high : f 56 ≡ (sum (to_le_bytes w64 b) - 1) / 65536 = at 56 refl ∙ ap (λ z. z / 65536) v in
+        let met : (n : ℕ) → one_if (eqb b 0) ≡ n → AllMeet (telling n) f =
+            λ n g. carry_le _ 1 a b (lit< tt) (low_k e) ▸ high_carry_le _ 1 a b (lit< tt) la lb (high_k e) ▸ (no_j e.1).0 ▸ (no_j e.1).1 ▸ (at 54 refl ∙ t ∙ g) ▸ half_le _ _ low ▸ few_8 _ b high ▸ tt in
+        whole k h (elim (cases_eq b 0) [
+          | inl z ↦ holds k (telling 1) h (met 1 (ap one_if (test_on b 0 z))) (one (summed e (by_line (no_bytes b _ _ _ _ _ _ _ _ lb (at 24 refl) (at 25 refl) (at 26 refl) (at 27 refl) (at 28 refl) (at 29 refl) (at 30 refl) (at 31 refl) z), tt)))
+          | inr z ↦ holds k (telling 0) h (met 0 (ap one_if (test_off b 0 z))) (none (summed e (by_line (some_bytes b _ _ _ _ _ _ _ _ lb (at 24 refl) (at 25 refl) (at 26 refl) (at 27 refl) (at 28 refl) (at 29 refl) (at 30 refl) (at 31 refl) _ _ z low high), tt)))
+        ]) law
+
+  eq_whole : HasRow c 10 i r (binary_row ops.Eq a b) → Meets ns c i r items × (tuple ns c 10 i r operation.terms ≡ op_tuple ops.Eq a b)
   unfolding op_number
-  add_holds h =
-      let e : (k : ℕ) → ltb k 57 ≡ true → f k ≡ slice_index (binary_row ops.Add a b) k = at ops.Add h in
-      holds ops.Add h 1 plain (flagged ops.Add h) (plain_met ops.Add h (carry_0 ops.Add h (e 44 refl)) (carry_1 ops.Add h (e 45 refl)) (e 46 refl) (e 47 refl) (e 54 refl) (e 55 refl) (e 56 refl)) (two ops.Add h (summed ops.Add h refl (e 44 refl) (e 45 refl)))
-
-  pub and_holds : HasRow c 10 i r (binary_row ops.And a b) → Meets ns c i r items
-  unfolding op_number
-  and_holds h =
-      let e : (k : ℕ) → ltb k 57 ≡ true → f k ≡ slice_index (binary_row ops.And a b) k = at ops.And h in
-      holds ops.And h 6 plain (flagged ops.And h) (plain_met ops.And h (carry_0 ops.And h (e 44 refl)) (carry_1 ops.And h (e 45 refl)) (e 46 refl) (e 47 refl) (e 54 refl) (e 55 refl) (e 56 refl)) (two ops.And h (summed ops.And h refl (e 44 refl) (e 45 refl)))
-
-  pub or_holds : HasRow c 10 i r (binary_row ops.Or a b) → Meets ns c i r items
-  unfolding op_number
-  or_holds h =
-      let e : (k : ℕ) → ltb k 57 ≡ true → f k ≡ slice_index (binary_row ops.Or a b) k = at ops.Or h in
-      holds ops.Or h 7 plain (flagged ops.Or h) (plain_met ops.Or h (carry_0 ops.Or h (e 44 refl)) (carry_1 ops.Or h (e 45 refl)) (e 46 refl) (e 47 refl) (e 54 refl) (e 55 refl) (e 56 refl)) (two ops.Or h (summed ops.Or h refl (e 44 refl) (e 45 refl)))
-
-  pub xor_holds : HasRow c 10 i r (binary_row ops.Xor a b) → Meets ns c i r items
-  unfolding op_number
-  xor_holds h =
-      let e : (k : ℕ) → ltb k 57 ≡ true → f k ≡ slice_index (binary_row ops.Xor a b) k = at ops.Xor h in
-      holds ops.Xor h 8 plain (flagged ops.Xor h) (plain_met ops.Xor h (carry_0 ops.Xor h (e 44 refl)) (carry_1 ops.Xor h (e 45 refl)) (e 46 refl) (e 47 refl) (e 54 refl) (e 55 refl) (e 56 refl)) (two ops.Xor h (summed ops.Xor h refl (e 44 refl) (e 45 refl)))
-
-  pub addw_holds : HasRow c 10 i r (binary_row ops.Addw a b) → Meets ns c i r items
-  unfolding op_number
-  addw_holds h =
-      let e : (k : ℕ) → ltb k 57 ≡ true → f k ≡ slice_index (binary_row ops.Addw a b) k = at ops.Addw h in
-      holds ops.Addw h 9 plain (flagged ops.Addw h) (plain_met ops.Addw h (carry_0 ops.Addw h (e 44 refl)) (carry_1 ops.Addw h (e 45 refl)) (e 46 refl) (e 47 refl) (e 54 refl) (e 55 refl) (e 56 refl)) (two ops.Addw h (summed ops.Addw h refl (e 44 refl) (e 45 refl)))
-
-  pub sub_holds : HasRow c 10 i r (binary_row ops.Sub a b) → Meets ns c i r items
-  unfolding op_number
-  sub_holds h =
-      let e : (k : ℕ) → ltb k 57 ≡ true → f k ≡ slice_index (binary_row ops.Sub a b) k = at ops.Sub h in
-      holds ops.Sub h 2 plain (flagged ops.Sub h) (plain_met ops.Sub h (one_le _ _ (e 44 refl)) (one_le _ _ (e 45 refl)) (e 46 refl) (e 47 refl) (e 54 refl) (e 55 refl) (e 56 refl)) (two ops.Sub h (differing ops.Sub h refl (e 44 refl) (e 45 refl)))
-
-  pub ltu_holds : HasRow c 10 i r (binary_row ops.Ltu a b) → Meets ns c i r items
-  unfolding op_number
-  ltu_holds h =
-      let e : (k : ℕ) → ltb k 57 ≡ true → f k ≡ slice_index (binary_row ops.Ltu a b) k = at ops.Ltu h in
-      holds ops.Ltu h 3 plain (flagged ops.Ltu h) (plain_met ops.Ltu h (one_le _ _ (e 44 refl)) (one_le _ _ (e 45 refl)) (e 46 refl) (e 47 refl) (e 54 refl) (e 55 refl) (e 56 refl)) (two ops.Ltu h (differing ops.Ltu h refl (e 44 refl) (e 45 refl)))
-
-  pub lt_holds : HasRow c 10 i r (binary_row ops.Lt a b) → Meets ns c i r items
-  unfolding op_number
-  lt_holds h =
-      let e : (k : ℕ) → ltb k 57 ≡ true → f k ≡ slice_index (binary_row ops.Lt a b) k = at ops.Lt h in
-      holds ops.Lt h 4 plain (flagged ops.Lt h) (plain_met ops.Lt h (one_le _ _ (e 44 refl)) (one_le _ _ (e 45 refl)) (e 46 refl) (e 47 refl) (e 54 refl) (e 55 refl) (e 56 refl)) (two ops.Lt h (differing ops.Lt h refl (e 44 refl) (e 45 refl)))
-
-  pub subw_holds : HasRow c 10 i r (binary_row ops.Subw a b) → Meets ns c i r items
-  unfolding op_number
-  subw_holds h =
-      let e : (k : ℕ) → ltb k 57 ≡ true → f k ≡ slice_index (binary_row ops.Subw a b) k = at ops.Subw h in
-      holds ops.Subw h 10 plain (flagged ops.Subw h) (plain_met ops.Subw h (one_le _ _ (e 44 refl)) (one_le _ _ (e 45 refl)) (e 46 refl) (e 47 refl) (e 54 refl) (e 55 refl) (e 56 refl)) (two ops.Subw h (differing ops.Subw h refl (e 44 refl) (e 45 refl)))
-
-  pub sh1add_holds : HasRow c 10 i r (binary_row ops.Sh1add a b) → Meets ns c i r items
-  unfolding op_number
-  sh1add_holds h =
-      let e : (k : ℕ) → ltb k 57 ≡ true → f k ≡ slice_index (binary_row ops.Sh1add a b) k = at ops.Sh1add h in
-      holds ops.Sh1add h 11 with_factor (flagged ops.Sh1add h) (scaled_met ops.Sh1add h (few _ 2 (carry_le _ 2 a b (lit< tt) (e 46 refl)) (lit< tt)) (few _ 2 (high_carry_le _ 2 a b (lit< tt) la lb (e 47 refl)) (lit< tt)) (e 44 refl) (e 45 refl) (e 54 refl) (e 55 refl) (e 56 refl)) (two ops.Sh1add h (scaled ops.Sh1add h 2 refl (e 46 refl) (e 47 refl)))
-
-  pub sh2add_holds : HasRow c 10 i r (binary_row ops.Sh2add a b) → Meets ns c i r items
-  unfolding op_number
-  sh2add_holds h =
-      let e : (k : ℕ) → ltb k 57 ≡ true → f k ≡ slice_index (binary_row ops.Sh2add a b) k = at ops.Sh2add h in
-      holds ops.Sh2add h 12 with_factor (flagged ops.Sh2add h) (scaled_met ops.Sh2add h (few _ 4 (carry_le _ 4 a b (lit< tt) (e 46 refl)) (lit< tt)) (few _ 4 (high_carry_le _ 4 a b (lit< tt) la lb (e 47 refl)) (lit< tt)) (e 44 refl) (e 45 refl) (e 54 refl) (e 55 refl) (e 56 refl)) (two ops.Sh2add h (scaled ops.Sh2add h 4 refl (e 46 refl) (e 47 refl)))
-
-  pub sh3add_holds : HasRow c 10 i r (binary_row ops.Sh3add a b) → Meets ns c i r items
-  unfolding op_number
-  sh3add_holds h =
-      let e : (k : ℕ) → ltb k 57 ≡ true → f k ≡ slice_index (binary_row ops.Sh3add a b) k = at ops.Sh3add h in
-      holds ops.Sh3add h 13 with_factor (flagged ops.Sh3add h) (scaled_met ops.Sh3add h (few _ 8 (carry_le _ 8 a b (lit< tt) (e 46 refl)) (lit< tt)) (few _ 8 (high_carry_le _ 8 a b (lit< tt) la lb (e 47 refl)) (lit< tt)) (e 44 refl) (e 45 refl) (e 54 refl) (e 55 refl) (e 56 refl)) (two ops.Sh3add h (scaled ops.Sh3add h 8 refl (e 46 refl) (e 47 refl)))
-
-  pub czeqz_holds : HasRow c 10 i r (binary_row ops.Czeqz a b) → Meets ns c i r items
-  unfolding op_number
-  czeqz_holds h =
-      let e : (k : ℕ) → ltb k 57 ≡ true → f k ≡ slice_index (binary_row ops.Czeqz a b) k = at ops.Czeqz h in
-      elim (cases_eq b 0) [
-        | inl z ↦ holds ops.Czeqz h 14 (telling 1) (flagged ops.Czeqz h) (telling_met ops.Czeqz h 1 (carry_0 ops.Czeqz h (e 44 refl)) (carry_1 ops.Czeqz h (e 45 refl)) (e 46 refl) (e 47 refl) (e 54 refl ∙ ap one_if (test_on b 0 z)) (half_le _ _ (e 55 refl)) (few_8 _ b (e 56 refl))) (three ops.Czeqz h (summed ops.Czeqz h refl (e 44 refl) (e 45 refl)) (no_bytes b _ _ _ _ _ _ _ _ lb (e 24 refl) (e 25 refl) (e 26 refl) (e 27 refl) (e 28 refl) (e 29 refl) (e 30 refl) (e 31 refl) z))
-        | inr z ↦ holds ops.Czeqz h 14 (telling 0) (flagged ops.Czeqz h) (telling_met ops.Czeqz h 0 (carry_0 ops.Czeqz h (e 44 refl)) (carry_1 ops.Czeqz h (e 45 refl)) (e 46 refl) (e 47 refl) (e 54 refl ∙ ap one_if (test_off b 0 z)) (half_le _ _ (e 55 refl)) (few_8 _ b (e 56 refl))) (three ops.Czeqz h (summed ops.Czeqz h refl (e 44 refl) (e 45 refl)) (some_bytes b _ _ _ _ _ _ _ _ lb (e 24 refl) (e 25 refl) (e 26 refl) (e 27 refl) (e 28 refl) (e 29 refl) (e 30 refl) (e 31 refl) _ _ z (e 55 refl) (e 56 refl)))
-      ]
-
-  pub cznez_holds : HasRow c 10 i r (binary_row ops.Cznez a b) → Meets ns c i r items
-  unfolding op_number
-  cznez_holds h =
-      let e : (k : ℕ) → ltb k 57 ≡ true → f k ≡ slice_index (binary_row ops.Cznez a b) k = at ops.Cznez h in
-      elim (cases_eq b 0) [
-        | inl z ↦ holds ops.Cznez h 15 (telling 1) (flagged ops.Cznez h) (telling_met ops.Cznez h 1 (carry_0 ops.Cznez h (e 44 refl)) (carry_1 ops.Cznez h (e 45 refl)) (e 46 refl) (e 47 refl) (e 54 refl ∙ ap one_if (test_on b 0 z)) (half_le _ _ (e 55 refl)) (few_8 _ b (e 56 refl))) (three ops.Cznez h (summed ops.Cznez h refl (e 44 refl) (e 45 refl)) (no_bytes b _ _ _ _ _ _ _ _ lb (e 24 refl) (e 25 refl) (e 26 refl) (e 27 refl) (e 28 refl) (e 29 refl) (e 30 refl) (e 31 refl) z))
-        | inr z ↦ holds ops.Cznez h 15 (telling 0) (flagged ops.Cznez h) (telling_met ops.Cznez h 0 (carry_0 ops.Cznez h (e 44 refl)) (carry_1 ops.Cznez h (e 45 refl)) (e 46 refl) (e 47 refl) (e 54 refl ∙ ap one_if (test_off b 0 z)) (half_le _ _ (e 55 refl)) (few_8 _ b (e 56 refl))) (three ops.Cznez h (summed ops.Cznez h refl (e 44 refl) (e 45 refl)) (some_bytes b _ _ _ _ _ _ _ _ lb (e 24 refl) (e 25 refl) (e 26 refl) (e 27 refl) (e 28 refl) (e 29 refl) (e 30 refl) (e 31 refl) _ _ z (e 55 refl) (e 56 refl)))
-      ]
-
-  pub eq_holds : HasRow c 10 i r (binary_row ops.Eq a b) → Meets ns c i r items
-  unfolding op_number
-  eq_holds h =
+  eq_whole h =
       let e : (k : ℕ) → ltb k 57 ≡ true → f k ≡ slice_index (binary_row ops.Eq a b) k = at ops.Eq h in
-      elim (cases_eq a b) [
-        | inl z ↦ holds ops.Eq h 5 (telling 1) (flagged ops.Eq h) (telling_met ops.Eq h 1 (one_le _ _ (e 44 refl)) (one_le _ _ (e 45 refl)) (e 46 refl) (e 47 refl) (e 54 refl ∙ ap one_if (test_on a b z)) (half_le _ _ (e 55 refl)) (few_4 _ (worked ops.Eq a b) (worked_fits ops.Eq a b) (e 56 refl))) (three ops.Eq h (differing ops.Eq h refl (e 44 refl) (e 45 refl)) (no_halves a b _ _ _ _ z lb (e 40 refl) (e 41 refl) (e 42 refl) (e 43 refl)))
-        | inr z ↦ holds ops.Eq h 5 (telling 0) (flagged ops.Eq h) (telling_met ops.Eq h 0 (one_le _ _ (e 44 refl)) (one_le _ _ (e 45 refl)) (e 46 refl) (e 47 refl) (e 54 refl ∙ ap one_if (test_off a b z)) (half_le _ _ (e 55 refl)) (few_4 _ (worked ops.Eq a b) (worked_fits ops.Eq a b) (e 56 refl))) (three ops.Eq h (differing ops.Eq h refl (e 44 refl) (e 45 refl)) (some_halves (worked ops.Eq a b) _ _ _ _ _ _ (worked_fits ops.Eq a b) (apart_is a b la lb z) (e 40 refl) (e 41 refl) (e 42 refl) (e 43 refl) (e 55 refl) (e 56 refl)))
-      ]
+      let v = worked ops.Eq a b in
+      let met : (n : ℕ) → one_if (eqb a b) ≡ n → AllMeet (telling n) f =
+          λ n g. one_le _ _ (e 44 refl) ▸ one_le _ _ (e 45 refl) ▸ e 46 refl ▸ e 47 refl ▸ (e 54 refl ∙ g) ▸ half_le _ _ (e 55 refl) ▸ few_4 _ v (worked_fits ops.Eq a b) (e 56 refl) ▸ tt in
+      whole ops.Eq h 5 (flagged ops.Eq h) (elim (cases_eq a b) [
+        | inl z ↦ holds ops.Eq h 5 (telling 1) (flagged ops.Eq h) (met 1 (ap one_if (test_on a b z))) (differing ops.Eq h (refl, refl) (by_line (no_halves a b _ _ _ _ z lb (e 40 refl) (e 41 refl) (e 42 refl) (e 43 refl)), tt))
+        | inr z ↦ holds ops.Eq h 5 (telling 0) (flagged ops.Eq h) (met 0 (ap one_if (test_off a b z))) (differing ops.Eq h (refl, refl) (by_line (some_halves v _ _ _ _ _ _ (worked_fits ops.Eq a b) (apart_is a b la lb z) (e 40 refl) (e 41 refl) (e 42 refl) (e 43 refl) (e 55 refl) (e 56 refl)), tt))
+      ]) (eq_is ns c i r has)
 
-  -- two limbs that are those of a number
-  whole_of : (v lo hi : ℕ) → lo ≡ v % 4294967296 → hi ≡ v / 4294967296 → joined lo hi ≡ v
-  whole_of v lo hi e g = omega arith
+  abbrev pub Done : OpNo → Type 0
+  Done o = HasRow c 10 i r (binary_row o a b) → Meets ns c i r items × (tuple ns c 10 i r operation.terms ≡ op_tuple o a b)
 
-  set_on : f 0 ≡ 1 → f 0 ≢ 0
-  set_on e z = omega arith
-
-  -- the lines and the tuple of an operation
-  abbrev pub Whole : OpNo → Type 0
-  Whole o = HasRow c 10 i r (binary_row o a b) → Meets ns c i r items × (tuple ns c 10 i r operation.terms ≡ op_tuple o a b)
-
-  with_tuple : (o : OpNo) (h : HasRow c 10 i r (binary_row o a b)) (m : Meets ns c i r items) → ((on : f 0 ≢ 0) → IsOp ns c i r has m on o) → Meets ns c i r items × (tuple ns c 10 i r operation.terms ≡ op_tuple o a b)
-  with_tuple o h m e =
-      let on : f 0 ≢ 0 = set_on (at o h 0 refl) in
-      (m, tuple_is ns c i r has m on ∙ (e on).1 ∙ (λ j. op_tuple o (whole_of a al ah (al_is o h) (ah_is o h) j) (whole_of b bl bh (bl_is o h) (bh_is o h) j)))
-
-  add_whole : Whole ops.Add
+  pub each_done : Each (λ j. Done (get_or (operations airs.Binary) j ops.Add)) 15
   unfolding op_number
-  add_whole h = with_tuple ops.Add h (add_holds h) (λ on. add_is ns c i r has (add_holds h) on (flagged ops.Add h))
-
-  sub_whole : Whole ops.Sub
-  unfolding op_number
-  sub_whole h = with_tuple ops.Sub h (sub_holds h) (λ on. sub_is ns c i r has (sub_holds h) on (flagged ops.Sub h))
-
-  ltu_whole : Whole ops.Ltu
-  unfolding op_number
-  ltu_whole h = with_tuple ops.Ltu h (ltu_holds h) (λ on. ltu_is ns c i r has (ltu_holds h) on (flagged ops.Ltu h))
-
-  lt_whole : Whole ops.Lt
-  unfolding op_number
-  lt_whole h = with_tuple ops.Lt h (lt_holds h) (λ on. lt_is ns c i r has (lt_holds h) on (flagged ops.Lt h))
-
-  eq_whole : Whole ops.Eq
-  unfolding op_number
-  eq_whole h = with_tuple ops.Eq h (eq_holds h) (λ on. eq_is ns c i r has (eq_holds h) on (flagged ops.Eq h))
-
-  and_whole : Whole ops.And
-  unfolding op_number
-  and_whole h = with_tuple ops.And h (and_holds h) (λ on. and_is ns c i r has (and_holds h) on (flagged ops.And h))
-
-  or_whole : Whole ops.Or
-  unfolding op_number
-  or_whole h = with_tuple ops.Or h (or_holds h) (λ on. or_is ns c i r has (or_holds h) on (flagged ops.Or h))
-
-  xor_whole : Whole ops.Xor
-  unfolding op_number
-  xor_whole h = with_tuple ops.Xor h (xor_holds h) (λ on. xor_is ns c i r has (xor_holds h) on (flagged ops.Xor h))
-
-  addw_whole : Whole ops.Addw
-  unfolding op_number
-  addw_whole h = with_tuple ops.Addw h (addw_holds h) (λ on. addw_is ns c i r has (addw_holds h) on (flagged ops.Addw h))
-
-  subw_whole : Whole ops.Subw
-  unfolding op_number
-  subw_whole h = with_tuple ops.Subw h (subw_holds h) (λ on. subw_is ns c i r has (subw_holds h) on (flagged ops.Subw h))
-
-  sh1add_whole : Whole ops.Sh1add
-  unfolding op_number
-  sh1add_whole h = with_tuple ops.Sh1add h (sh1add_holds h) (λ on. sh1add_is ns c i r has (sh1add_holds h) on (flagged ops.Sh1add h))
-
-  sh2add_whole : Whole ops.Sh2add
-  unfolding op_number
-  sh2add_whole h = with_tuple ops.Sh2add h (sh2add_holds h) (λ on. sh2add_is ns c i r has (sh2add_holds h) on (flagged ops.Sh2add h))
-
-  sh3add_whole : Whole ops.Sh3add
-  unfolding op_number
-  sh3add_whole h = with_tuple ops.Sh3add h (sh3add_holds h) (λ on. sh3add_is ns c i r has (sh3add_holds h) on (flagged ops.Sh3add h))
-
-  czeqz_whole : Whole ops.Czeqz
-  unfolding op_number
-  czeqz_whole h = with_tuple ops.Czeqz h (czeqz_holds h) (λ on. czeqz_is ns c i r has (czeqz_holds h) on (flagged ops.Czeqz h))
-
-  cznez_whole : Whole ops.Cznez
-  unfolding op_number
-  cznez_whole h = with_tuple ops.Cznez h (cznez_holds h) (λ on. cznez_is ns c i r has (cznez_holds h) on (flagged ops.Cznez h))
-
-  pub wholes : Each (λ j. Whole (get_or (operations airs.Binary) j ops.Add)) 15
-  wholes = (add_whole, (sub_whole, (ltu_whole, (lt_whole, (eq_whole, (and_whole, (or_whole, (xor_whole, (addw_whole, (subw_whole, (sh1add_whole, (sh2add_whole, (sh3add_whole, (czeqz_whole, (cznez_whole, tt)))))))))))))))
+  each_done =
+      (λ h. adds ops.Add h 1 (refl, refl, refl) (refl, refl) (flagged ops.Add h) (λ r. r) (add_is ns c i r has))
+      ▸ (λ h. subtract ops.Sub h 2 (refl, refl) (refl, refl) (flagged ops.Sub h) (λ r. r) (sub_is ns c i r has))
+      ▸ (λ h. subtract ops.Ltu h 3 (refl, refl) (refl, refl) (flagged ops.Ltu h) (λ r. r) (ltu_is ns c i r has))
+      ▸ (λ h. subtract ops.Lt h 4 (refl, refl) (refl, refl) (flagged ops.Lt h) (λ r. r) (lt_is ns c i r has))
+      ▸ eq_whole
+      ▸ (λ h. adds ops.And h 6 (refl, refl, refl) (refl, refl) (flagged ops.And h) (λ r. r) (and_is ns c i r has))
+      ▸ (λ h. adds ops.Or h 7 (refl, refl, refl) (refl, refl) (flagged ops.Or h) (λ r. r) (or_is ns c i r has))
+      ▸ (λ h. adds ops.Xor h 8 (refl, refl, refl) (refl, refl) (flagged ops.Xor h) (λ r. r) (xor_is ns c i r has))
+      ▸ (λ h. adds ops.Addw h 9 (refl, refl, refl) (refl, refl) (flagged ops.Addw h) (λ r. r) (addw_is ns c i r has))
+      ▸ (λ h. subtract ops.Subw h 10 (refl, refl) (refl, refl) (flagged ops.Subw h) (λ r. r) (subw_is ns c i r has))
+      ▸ (λ h. scale ops.Sh1add h 11 2 (lit< tt) (refl, refl, refl) (refl, refl) (flagged ops.Sh1add h) (λ r. r) (sh1add_is ns c i r has))
+      ▸ (λ h. scale ops.Sh2add h 12 4 (lit< tt) (refl, refl, refl) (refl, refl) (flagged ops.Sh2add h) (λ r. r) (sh2add_is ns c i r has))
+      ▸ (λ h. scale ops.Sh3add h 13 8 (lit< tt) (refl, refl, refl) (refl, refl) (flagged ops.Sh3add h) (λ r. r) (sh3add_is ns c i r has))
+      ▸ (λ h. zeroes ops.Czeqz h 14 (refl, refl, refl) refl refl (flagged ops.Czeqz h) (λ r. r) (λ r. r) (czeqz_is ns c i r has))
+      ▸ (λ h. zeroes ops.Cznez h 15 (refl, refl, refl) refl refl (flagged ops.Cznez h) (λ r. r) (λ r. r) (cznez_is ns c i r has))
+      ▸ tt
 
 pub binary_complete : IsComplete
-binary_complete ns c i r o a b has e la lb = of_binary (Whole ns c i r has a b la lb) (wholes ns c i r has a b la lb) o e
+binary_complete ns c i r o a b has e la lb = of_binary (Done ns c i r has a b la lb) (each_done ns c i r has a b la lb) o e

@@ -1,3 +1,4 @@
+mod Pairs
 mod Airs
 mod Limbs
 mod Limbwise
