@@ -128,10 +128,10 @@ module _ (c : Columns) (i r n a b : ℕ) (is_row : IsNumberedRow c i r n a b) (h
   pub at : (j : ℕ) → ltb j 79 ≡ true → f j ≡ slice_index (numbered_row n a b) j
   at j h = is_row j (ltb-true j 79 h)
 
-  x_small : x < 18446744073709551616
+  pub x_small : x < 18446744073709551616
   x_small = lt_of_le_of_lt (either_le (is_division n) (u / v) u u (div-le_self u v) (le_refl u)) hu
 
-  rest_small : rest < 18446744073709551616
+  pub rest_small : rest < 18446744073709551616
   rest_small = lt_of_le_of_lt (either_le (is_division n) (u % v) 0 u (mod-le u v) zero-le) hu
 
   carry_0 : f 42 + 65536 * f 49 ≡ c0 x v rest

@@ -23,14 +23,8 @@ mod Remuw
 mod Ariths
 mod Carries
 mod Honest
-mod Unsigned
-mod Turned
-mod DivFilled
-mod DivwFilled
-mod MulhFilled
-mod MulhsuFilled
-mod RemFilled
-mod RemwFilled
-mod Whole
 mod Tuple
 mod Tables
+mod Shown
+mod Owed
+mod Filled

@@ -10,7 +10,7 @@ use Rattle.machine_text.specs.Arith.{items, operation}
 use Rattle.step_rows.specs.Tuples.{IsOperationOf}
 use Rattle.air_arith.specs.Laws.{ArithSent, ArithFilled}
 use Rattle.air_arith.proofs.Ariths.{arith_sound}
-use Rattle.air_arith.proofs.Unsigned.{arith_padding}
+use Rattle.air_arith.proofs.Filled.{arith_padding}
 use Rattle.air_arith.proofs.Tuple.{arith_complete}
 
 is_set : (v : ℕ) → not (eqb v 0) ≡ true → v ≢ 0

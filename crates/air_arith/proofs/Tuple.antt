@@ -20,7 +20,7 @@ use Rattle.air_arith.proofs.Known.{Selected, selected, base}
 use Rattle.air_arith.proofs.Rows.{plain_row}
 use Rattle.air_arith.proofs.Ariths.{tuple_holds}
 use Rattle.air_arith.proofs.Honest.{low_limb, high_limb}
-use Rattle.air_arith.proofs.Whole.{complete_for}
+use Rattle.air_arith.proofs.Filled.{complete_for}
 
 numbered : (k : ℕ) → k < 13 → (d : OpNo) → op_number (slice_index_or products_and_quotients k d) ≡ 17 + k
 numbered k l d = number_at k l d

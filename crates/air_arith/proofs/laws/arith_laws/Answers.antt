@@ -1,5 +1,5 @@
 use Rattle.air_arith.proofs.Ariths.{arith_sound, arith_exact}
-use Rattle.air_arith.proofs.Unsigned.{arith_padding}
+use Rattle.air_arith.proofs.Filled.{arith_padding}
 use Rattle.air_arith.proofs.Tuple.{arith_complete}
 use Rattle.air_arith.proofs.Tables.{arith_sent, arith_filled}
 use Rattle.air_arith.proofs.laws.arith_laws.Goals as goal
