@@ -19,17 +19,23 @@ use Rattle.rv_word.specs.declared.instr.Kind.{Kind}
 use Rattle.rv_word.specs.declared.instr.Instr.{Instr}
 use Rattle.rv_word.specs.declared.instr.Instr.TheVariants.{Lui, Auipc, Jal, Jalr, Branch, Load, Store, OpImm, Op, Fence, Ecall, Ebreak}
 use Rattle.rv_model.specs.Image.{Img}
+use Rattle.rv_model.specs.Run.{state_at}
 use Rattle.rv_model.specs.Op.{flag_of, bits_of}
-use Rattle.rv_model.specs.State.{State, Answer, Next, Halt, wrapped, reg, next, jump, is_taken}
-use Rattle.min_trace.specs.Operands.{rs1_of, op_of, compared_by}
+use Rattle.rv_model.specs.State.{State, Answer, Next, Halt, executed, operand, wrapped, reg, next, jump, is_taken}
+use Rattle.min_trace.specs.Operands.{rs1_of, op_of, uw_of, compared_by}
+use Rattle.min_trace.specs.Record.{record_at}
 use Rattle.min_trace.specs.declared.record.StepRecord.{StepRecord}
-use Rattle.air_main.specs.Rom.{RomRow, target, rom_row, cells, low, high, one_if, turned, RowOf}
+use Rattle.step_rows.specs.Words.{low, high, one_if}
+use Rattle.step_rows.specs.Rom.{RomRow, target, rom_row, cells, turned}
+use Rattle.step_rows.specs.Tuples.{op_tuple}
+use Rattle.step_rows.specs.MainRow.{main_row, of_access}
 use Rattle.rv_word.specs.Numbers.{op_number, kind_number}
 use Rattle.min_trace.specs.Laws.{value_in}
-use Rattle.air_main.specs.Step.{op_tuple, first_operand, executed_with}
-use Rattle.air_main.specs.Law.{HasMain, Meets, RowConstants, at_row, operation_terms, access_terms}
-use Rattle.air_main.specs.Rows.{main_row, of_access, takes_low, recorded, SendsAccess, Sends, MainSends, IsRow, StandsAt, MainComplete, MainPadding}
-use Rattle.air_main.proofs.Decoded.{ImmFits, decoded_as}
+use Rattle.air_main.specs.Law.{HasMain, Meets, RowConstants, at_row}
+use Rattle.air_main.specs.Rows.{HasRow, SendsAccess, Sends, MainSends, IsRow, StandsAt, MainComplete, MainPadding}
+use Rattle.air_main.proofs.Rom.{RowOf}
+use Rattle.air_main.proofs.Recorded.{recorded, Ends, Stepped, stepped, record_is, ends_as}
+use Rattle.air_main.proofs.Decoded.{Ranges, ImmFits, decoded_as}
 use Rattle.air_main.proofs.Fields.{nth, row_of, row_pc, Small, row_small, low_below, high_below, one_le}
 use Rattle.air_main.proofs.Table.{listed, listed_is, tail, Found, found_in}
 use Rattle.air_main.proofs.Moves.{taken_is}
@@ -67,7 +73,7 @@ same_product l a b h = elim (cases_eq l 0) [ inl z ↦ ap (λ z. z * a) z ∙ (n
 le_same : (a b m : ℕ) → a ≡ b → b ≤ m → a ≤ m
 le_same a b m h l = omega arith
 
-module _ (ns : List Namespace) (c : Columns) (n : ℕ) (image : Img) (uses_low : ℕ → Bool) (i r : ℕ) (has : HasMain ns c n image uses_low) (fixed : RowConstants ns c i r) where
+module _ (ns : List Namespace) (c : Columns) (n : ℕ) (image : Img) (ranges : Ranges) (i r : ℕ) (has : HasMain ns c n image) (fixed : RowConstants ns c i r) where
   abbrev at : ℕ → ℕ
   at k = c.at 6 i k r
 
@@ -175,8 +181,8 @@ module _ (ns : List Namespace) (c : Columns) (n : ℕ) (image : Img) (uses_low :
           | inr l ↦ finish ((2, is 1) ∷ halt_facts) [] (l, (fixed.end, meet_both constants ((30, is 93) ∷ (31, is 0) ∷ facts 1 0 0 0 0 0 1) at constants_meet h)) tt (l3, (line_8, tt))
         ]
 
-pub main_padding : MainPadding
-main_padding ns c n image uses_low i r has fixed first on z = padding ns c n image uses_low i r has fixed first on z
+pub main_padding : Ranges → MainPadding
+main_padding ranges ns c n image i r has fixed first on z = padding ns c n image ranges i r has fixed first on z
 
 pub pc_le : (a b : ℕ) → a ≡ b → b < 2 ^ 32 → a ≤ limb
 pc_le a b h l = omega arith
@@ -219,35 +225,35 @@ index_is wl wh v h k = omega arith
 eight : {a b c d e f g h A B C D E F G H : ℕ} → a ≡ A → b ≡ B → c ≡ C → d ≡ D → e ≡ E → f ≡ F → g ≡ G → h ≡ H → a ∷ b ∷ c ∷ d ∷ e ∷ f ∷ g ∷ h ∷ [] ≡ A ∷ B ∷ C ∷ D ∷ E ∷ F ∷ G ∷ H ∷ []
 eight a b c d e f g h = λ j. a j ∷ b j ∷ c j ∷ d j ∷ e j ∷ f j ∷ g j ∷ h j ∷ []
 
-op_as : (pc : ℕ) (u : Bool) (k : Instr) → (rom_row pc u k).op ≡ op_number (op_of k)
-op_as pc u (Lui rd imm) = refl
-op_as pc u (Auipc rd imm) = refl
-op_as pc u (Jal rd imm) = refl
-op_as pc u (Jalr rd rs1 imm) = refl
-op_as pc u (Branch b rs1 rs2 imm) = refl
-op_as pc u (Load k rd rs1 imm) = refl
-op_as pc u (Store k rs1 rs2 imm) = refl
-op_as pc u (OpImm o rd rs1 imm) = refl
-op_as pc u (Op o rd rs1 rs2) = refl
-op_as pc u Fence = refl
-op_as pc u Ecall = refl
-op_as pc u Ebreak = refl
+op_as : (pc : ℕ) (k : Instr) → (rom_row pc k).op ≡ op_number (op_of k)
+op_as pc (Lui rd imm) = refl
+op_as pc (Auipc rd imm) = refl
+op_as pc (Jal rd imm) = refl
+op_as pc (Jalr rd rs1 imm) = refl
+op_as pc (Branch b rs1 rs2 imm) = refl
+op_as pc (Load k rd rs1 imm) = refl
+op_as pc (Store k rs1 rs2 imm) = refl
+op_as pc (OpImm o rd rs1 imm uw) = refl
+op_as pc (Op o rd rs1 rs2 uw) = refl
+op_as pc Fence = refl
+op_as pc Ecall = refl
+op_as pc Ebreak = refl
 
-uw_of : (pc : ℕ) (u : Bool) (k : Instr) → (rom_row pc u k).uw ≡ one_if (takes_low u k)
-uw_of pc u (Lui rd imm) = refl
-uw_of pc u (Auipc rd imm) = refl
-uw_of pc u (Jal rd imm) = refl
-uw_of pc u (Jalr rd rs1 imm) = refl
-uw_of pc u (Branch b rs1 rs2 imm) = refl
-uw_of pc u (Load k rd rs1 imm) = refl
-uw_of pc u (Store k rs1 rs2 imm) = refl
-uw_of pc u (OpImm o rd rs1 imm) = refl
-uw_of pc u (Op o rd rs1 rs2) = refl
-uw_of pc u Fence = refl
-uw_of pc u Ecall = refl
-uw_of pc u Ebreak = refl
+uw_as : (pc : ℕ) (k : Instr) → (rom_row pc k).uw ≡ one_if (uw_of k)
+uw_as pc (Lui rd imm) = refl
+uw_as pc (Auipc rd imm) = refl
+uw_as pc (Jal rd imm) = refl
+uw_as pc (Jalr rd rs1 imm) = refl
+uw_as pc (Branch b rs1 rs2 imm) = refl
+uw_as pc (Load k rd rs1 imm) = refl
+uw_as pc (Store k rs1 rs2 imm) = refl
+uw_as pc (OpImm o rd rs1 imm uw) = refl
+uw_as pc (Op o rd rs1 rs2 uw) = refl
+uw_as pc Fence = refl
+uw_as pc Ecall = refl
+uw_as pc Ebreak = refl
 
-module _ (ns : List Namespace) (c : Columns) (n : ℕ) (image : Img) (uses_low : ℕ → Bool) (i r : ℕ) (has : HasMain ns c n image uses_low) (U : Bool) (number : ℕ) (s : State) (below : s.pc < 2 ^ 32) where
+module _ (ns : List Namespace) (c : Columns) (n : ℕ) (image : Img) (ranges : Ranges) (i r : ℕ) (has : HasMain ns c n image) (number : ℕ) (s : State) (below : s.pc < 2 ^ 32) where
   abbrev cell : ℕ → ℕ
   cell k = c.at 6 i k r
 
@@ -256,34 +262,34 @@ module _ (ns : List Namespace) (c : Columns) (n : ℕ) (image : Img) (uses_low :
 
   -- what is supposed of the row of an instruction with this answer
   record Setting (k : Instr) (answer : Answer) : Type 0 where
-    found : Found c (rom_row s.pc U k)
+    found : Found c (rom_row s.pc k)
     fits : ImmFits k
-    stands : StandsAt ns c i r (recorded U number k s answer)
+    stands : StandsAt ns c i r (recorded number k s answer)
     a_fits : reg s (rs1_of k) < 2 ^ 64
-    s_fits : (recorded U number k s answer).s < 2 ^ 64
-    c_fits : (recorded U number k s answer).c < 2 ^ 64
-    row : IsRow c i r (main_row U (recorded U number k s answer))
+    s_fits : (recorded number k s answer).s < 2 ^ 64
+    c_fits : (recorded number k s answer).c < 2 ^ 64
+    row : IsRow c i r (main_row (recorded number k s answer))
 
   module _ (k : Instr) (answer : Answer) (x : Setting k answer) where
-    values : listed cell 8 37 ≡ main_row U (recorded U number k s answer)
-    values = listed_is cell 8 (main_row U (recorded U number k s answer)) x.row
+    values : listed cell 8 37 ≡ main_row (recorded number k s answer)
+    values = listed_is cell 8 (main_row (recorded number k s answer)) x.row
 
     -- the column with number 8 + j
-    column : (j : ℕ) → nth (listed cell 8 37) j ≡ nth (main_row U (recorded U number k s answer)) j
+    column : (j : ℕ) → nth (listed cell 8 37) j ≡ nth (main_row (recorded number k s answer)) j
     column j = ap (λ t. nth t j) values
 
     abbrev R : RomRow
     R = row_of (listed cell 9 21)
 
-    R_is : R ≡ rom_row s.pc U k
+    R_is : R ≡ rom_row s.pc k
     R_is = ap (λ t. row_of (tail t)) values
 
     pc_is : cell 9 ≡ s.pc
-    pc_is = ap (λ z. z.pc) R_is ∙ row_pc s.pc U k
+    pc_is = ap (λ z. z.pc) R_is ∙ row_pc s.pc k
 
     within : AllMeet always cell
     within =
-        let b = subst (λ q. Small q) (sym R_is) (row_small s.pc U k x.fits) in
+        let b = subst (λ q. Small q) (sym R_is) (row_small s.pc k x.fits) in
         (pc_le _ _ pc_is below, (b.ilo, (b.ihi, (b.klo, (b.khi, (b.jt, (b.inv, (b.uw, (le_low _ _ (column 22), (le_high _ _ (column 23) x.a_fits, (le_low _ _ (column 24), (le_high _ _ (column 25) x.s_fits, (le_low _ _ (column 26), (le_high _ _ (column 27) x.c_fits, (le_same _ _ _ (column 28) (one_le _), tt)))))))))))))))
 
     met : (q : RomRow) → R ≡ q → AllMeet (flags q.bi q.ld q.st q.jr q.jp q.br q.halt ++ always) cell
@@ -294,9 +300,8 @@ module _ (ns : List Namespace) (c : Columns) (n : ℕ) (image : Img) (uses_low :
 
     line_8 : Says items (around ns c 6 i r) (sent ns c) (item_at items 61)
     line_8 =
-        let b : Tuples = record { space = 4; sel = Some Rom.SEL; terms = Rom.PC ∷ Rom.RS1 ∷ Rom.RS2 ∷ Rom.RD ∷ Rom.OP ∷ Rom.ILO ∷ Rom.IHI ∷ Rom.KLO ∷ Rom.KHI ∷ Rom.JT ∷ Rom.KIND ∷ Rom.BI ∷ Rom.WR ∷ Rom.LD ∷ Rom.ST ∷ Rom.JR ∷ Rom.JP ∷ Rom.BR ∷ Rom.INV ∷ Rom.HALT ∷ Rom.UW ∷ [] } in
         let f = x.found in
-        λ _. into_sent ns c b (listed cell 9 21) (record {
+        λ _. into_sent ns c Rom.instruction (listed cell 9 21) (record {
           instance = f.instance;
           row = f.place;
           is_instance = f.is_instance;
@@ -342,19 +347,19 @@ module _ (ns : List Namespace) (c : Columns) (n : ℕ) (image : Img) (uses_low :
     by_branch : (T : Bool) → ((turned b ≡ 0) × (F ≡ one_if T)) ⊎ ((turned b ≡ 1) × (F ≡ one_if (not T))) → (if T then jump s s.x (wrapped (s.pc + bits_of imm)) else next s) ≡ Next t → Meets ns c i r
     by_branch true (inl q) h =
         let j = jumps s _ _ t h in
-        taken ns c n image uses_low i r has x.stands.constants (line_3 _ _ x) (line_8 _ _ x) (inv_is ∙ q.0, (flag_is ∙ q.1, met_branch)) (to_jt _ t x l imm jt_is j.0 j.1)
+        taken ns c n image ranges i r has x.stands.constants (line_3 _ _ x) (line_8 _ _ x) (inv_is ∙ q.0, (flag_is ∙ q.1, met_branch)) (to_jt _ t x l imm jt_is j.0 j.1)
     by_branch true (inr q) h =
         let j = jumps s _ _ t h in
-        taken' ns c n image uses_low i r has x.stands.constants (line_3 _ _ x) (line_8 _ _ x) (inv_is ∙ q.0, (flag_is ∙ q.1, met_branch)) (to_jt _ t x l imm jt_is j.0 j.1)
-    by_branch false (inl q) h = not_taken ns c n image uses_low i r has x.stands.constants (line_3 _ _ x) (line_8 _ _ x) (inv_is ∙ q.0, (flag_is ∙ q.1, met_branch)) (plainly _ t x l (ap pc_of h))
-    by_branch false (inr q) h = not_taken' ns c n image uses_low i r has x.stands.constants (line_3 _ _ x) (line_8 _ _ x) (inv_is ∙ q.0, (flag_is ∙ q.1, met_branch)) (plainly _ t x l (ap pc_of h))
+        taken' ns c n image ranges i r has x.stands.constants (line_3 _ _ x) (line_8 _ _ x) (inv_is ∙ q.0, (flag_is ∙ q.1, met_branch)) (to_jt _ t x l imm jt_is j.0 j.1)
+    by_branch false (inl q) h = not_taken ns c n image ranges i r has x.stands.constants (line_3 _ _ x) (line_8 _ _ x) (inv_is ∙ q.0, (flag_is ∙ q.1, met_branch)) (plainly _ t x l (ap pc_of h))
+    by_branch false (inr q) h = not_taken' ns c n image ranges i r has x.stands.constants (line_3 _ _ x) (line_8 _ _ x) (inv_is ∙ q.0, (flag_is ∙ q.1, met_branch)) (plainly _ t x l (ap pc_of h))
 
-  by_next : (k : Instr) (t : State) (x : Setting k (Next t)) → t.pc < 2 ^ 32 → executed_with U k s ≡ Next t → Meets ns c i r
-  by_next (Lui rd imm) t x l h = constant ns c n image uses_low i r has x.stands.constants (line_3 _ _ x) (line_8 _ _ x) (met _ _ x _ (R_is _ _ x)) (plainly _ t x l (ap pc_of h))
-  by_next (Auipc rd imm) t x l h = constant ns c n image uses_low i r has x.stands.constants (line_3 _ _ x) (line_8 _ _ x) (met _ _ x _ (R_is _ _ x)) (plainly _ t x l (ap pc_of h))
+  by_next : (k : Instr) (t : State) (x : Setting k (Next t)) → t.pc < 2 ^ 32 → executed k s ≡ Next t → Meets ns c i r
+  by_next (Lui rd imm) t x l h = constant ns c n image ranges i r has x.stands.constants (line_3 _ _ x) (line_8 _ _ x) (met _ _ x _ (R_is _ _ x)) (plainly _ t x l (ap pc_of h))
+  by_next (Auipc rd imm) t x l h = constant ns c n image ranges i r has x.stands.constants (line_3 _ _ x) (line_8 _ _ x) (met _ _ x _ (R_is _ _ x)) (plainly _ t x l (ap pc_of h))
   by_next (Jal rd imm) t x l h =
       let j = jumps s _ _ t h in
-      jumping ns c n image uses_low i r has x.stands.constants (line_3 _ _ x) (line_8 _ _ x) (met _ _ x _ (R_is _ _ x)) (to_jt _ t x l imm (ap (λ z. z.jt) (R_is _ _ x)) j.0 j.1)
+      jumping ns c n image ranges i r has x.stands.constants (line_3 _ _ x) (line_8 _ _ x) (met _ _ x _ (R_is _ _ x)) (to_jt _ t x l imm (ap (λ z. z.jt) (R_is _ _ x)) j.0 j.1)
   by_next (Jalr rd rs1 imm) t x l h =
       let j = jumps s _ _ t h in
       let k = Jalr rd rs1 imm in
@@ -362,7 +367,7 @@ module _ (ns : List Namespace) (c : Columns) (n : ℕ) (image : Img) (uses_low :
       let lo : cell 34 ≡ low v = column k (Next t) x 26 ∙ ap low (sum_is (reg s rs1) (bits_of imm)) in
       let hi : cell 35 ≡ high v = column k (Next t) x 27 ∙ ap high (sum_is (reg s rs1) (bits_of imm)) in
       let bit : cell 37 ≡ v % 2 = column k (Next t) x 29 ∙ ap (λ z. z % 2) (sum_is (reg s rs1) (bits_of imm)) in
-      to_register ns c n image uses_low i r has x.stands.constants (line_3 k (Next t) x) (line_8 k (Next t) x) (rest_bit _ _ bit, (register_high _ v t.pc j.1 l hi, met k (Next t) x _ (R_is k (Next t) x))) (go k t x l _ (λ e. register_sum _ _ _ _ (cell 35) v t.pc e j.1 l bit lo))
+      to_register ns c n image ranges i r has x.stands.constants (line_3 k (Next t) x) (line_8 k (Next t) x) (rest_bit _ _ bit, (register_high _ v t.pc j.1 l hi, met k (Next t) x _ (R_is k (Next t) x))) (go k t x l _ (λ e. register_sum _ _ _ _ (cell 35) v t.pc e j.1 l bit lo))
   by_next (Branch b rs1 rs2 imm) t x l h = by_branch b rs1 rs2 imm t x l (is_taken b (reg s rs1) (reg s rs2)) (taken_is b (reg s rs1) (reg s rs2)) h
   by_next (Load q rd rs1 imm) t x l h =
       let k = Load q rd rs1 imm in
@@ -374,7 +379,7 @@ module _ (ns : List Namespace) (c : Columns) (n : ℕ) (image : Img) (uses_low :
       let wh : cell 39 ≡ v / 8 / 2 ^ 16 = column k (Next t) x 31 in
       let off : cell 40 ≡ v % 8 = column k (Next t) x 32 in
       let m = address_bounds _ _ _ v a.0 wl wh off in
-      loading ns c n image uses_low i r has x.stands.constants (line_3 k (Next t) x) (line_8 k (Next t) x) (m.0, (m.1, (m.2, (address_high _ v a.0 hi, met k (Next t) x _ (R_is k (Next t) x))))) (address_sum _ _ _ _ v a.0 lo wl wh off) (plainly k t x l a.1)
+      loading ns c n image ranges i r has x.stands.constants (line_3 k (Next t) x) (line_8 k (Next t) x) (m.0, (m.1, (m.2, (address_high _ v a.0 hi, met k (Next t) x _ (R_is k (Next t) x))))) (address_sum _ _ _ _ v a.0 lo wl wh off) (plainly k t x l a.1)
   by_next (Store q rs1 rs2 imm) t x l h =
       let k = Store q rs1 rs2 imm in
       let v = wrapped (reg s rs1 + bits_of imm) in
@@ -385,14 +390,14 @@ module _ (ns : List Namespace) (c : Columns) (n : ℕ) (image : Img) (uses_low :
       let wh : cell 39 ≡ v / 8 / 2 ^ 16 = column k (Next t) x 31 in
       let off : cell 40 ≡ v % 8 = column k (Next t) x 32 in
       let m = address_bounds _ _ _ v a.0 wl wh off in
-      storing ns c n image uses_low i r has x.stands.constants (line_3 k (Next t) x) (line_8 k (Next t) x) (m.0, (m.1, (m.2, (address_high _ v a.0 hi, met k (Next t) x _ (R_is k (Next t) x))))) (address_sum _ _ _ _ v a.0 lo wl wh off) (plainly k t x l a.1)
-  by_next (OpImm o rd rs1 imm) t x l h = constant ns c n image uses_low i r has x.stands.constants (line_3 _ _ x) (line_8 _ _ x) (met _ _ x _ (R_is _ _ x)) (plainly _ t x l (ap pc_of h))
-  by_next (Op o rd rs1 rs2) t x l h = register ns c n image uses_low i r has x.stands.constants (line_3 _ _ x) (line_8 _ _ x) (met _ _ x _ (R_is _ _ x)) (plainly _ t x l (ap pc_of h))
-  by_next Fence t x l h = constant ns c n image uses_low i r has x.stands.constants (line_3 _ _ x) (line_8 _ _ x) (met _ _ x _ (R_is _ _ x)) (plainly _ t x l (ap pc_of h))
+      storing ns c n image ranges i r has x.stands.constants (line_3 k (Next t) x) (line_8 k (Next t) x) (m.0, (m.1, (m.2, (address_high _ v a.0 hi, met k (Next t) x _ (R_is k (Next t) x))))) (address_sum _ _ _ _ v a.0 lo wl wh off) (plainly k t x l a.1)
+  by_next (OpImm o rd rs1 imm uw) t x l h = constant ns c n image ranges i r has x.stands.constants (line_3 _ _ x) (line_8 _ _ x) (met _ _ x _ (R_is _ _ x)) (plainly _ t x l (ap pc_of h))
+  by_next (Op o rd rs1 rs2 uw) t x l h = register ns c n image ranges i r has x.stands.constants (line_3 _ _ x) (line_8 _ _ x) (met _ _ x _ (R_is _ _ x)) (plainly _ t x l (ap pc_of h))
+  by_next Fence t x l h = constant ns c n image ranges i r has x.stands.constants (line_3 _ _ x) (line_8 _ _ x) (met _ _ x _ (R_is _ _ x)) (plainly _ t x l (ap pc_of h))
   by_next Ecall t x l h = absurd (not_on (reg s 17 == 93) _ t h)
   by_next Ebreak t x l h = absurd (not_on false _ t h)
 
-  by_halt : (k : Instr) (x : Setting k Halt) → executed_with U k s ≡ Halt → Meets ns c i r
+  by_halt : (k : Instr) (x : Setting k Halt) → executed k s ≡ Halt → Meets ns c i r
   by_halt (Lui rd imm) x h = absurd (no_halt _ h)
   by_halt (Auipc rd imm) x h = absurd (no_halt _ h)
   by_halt (Jal rd imm) x h = absurd (jump_on s _ _ h)
@@ -400,12 +405,12 @@ module _ (ns : List Namespace) (c : Columns) (n : ℕ) (image : Img) (uses_low :
   by_halt (Branch b rs1 rs2 imm) x h = absurd (branch_on (is_taken b (reg s rs1) (reg s rs2)) s _ _ h)
   by_halt (Load q rd rs1 imm) x h = absurd (load_on s q rd _ h)
   by_halt (Store q rs1 rs2 imm) x h = absurd (store_on s q _ _ h)
-  by_halt (OpImm o rd rs1 imm) x h = absurd (no_halt _ h)
-  by_halt (Op o rd rs1 rs2) x h = absurd (no_halt _ h)
+  by_halt (OpImm o rd rs1 imm uw) x h = absurd (no_halt _ h)
+  by_halt (Op o rd rs1 rs2 uw) x h = absurd (no_halt _ h)
   by_halt Fence x h = absurd (no_halt _ h)
   by_halt Ecall x h =
       let e : reg s 17 ≡ 93 = eqb-true _ _ (halted (reg s 17 == 93) _ h) in
-      halting ns c n image uses_low i r has x.stands.constants (line_3 _ _ x) (line_8 _ _ x) (low_93 _ _ (column Ecall Halt x 22) e, (high_93 _ _ (column Ecall Halt x 23) e, met Ecall Halt x _ (R_is Ecall Halt x))) (λ z. x.stands.goes_on z)
+      halting ns c n image ranges i r has x.stands.constants (line_3 _ _ x) (line_8 _ _ x) (low_93 _ _ (column Ecall Halt x 22) e, (high_93 _ _ (column Ecall Halt x 23) e, met Ecall Halt x _ (R_is Ecall Halt x))) (λ z. x.stands.goes_on z)
   by_halt Ebreak x h = absurd (no_fault _ h)
 
   -- what the row sends
@@ -420,16 +425,16 @@ module _ (ns : List Namespace) (c : Columns) (n : ℕ) (image : Img) (uses_low :
     bare = row_at items ns c 6 i r always has.canonical (within k answer x)
 
     abbrev step : StepRecord
-    step = recorded U number k s answer
+    step = recorded number k s answer
 
-    first_by : (u : Bool) → cell 29 ≡ one_if u → cell 30 ≡ low step.a → cell 31 ≡ high step.a → (cell 30 ≡ first_operand u step.a % 2 ^ 32) × (value_at ((num 1 ⊖ Main.uw) ⊗ Main.ahi) ≡ first_operand u step.a / 2 ^ 32)
+    first_by : (u : Bool) → cell 29 ≡ one_if u → cell 30 ≡ low step.a → cell 31 ≡ high step.a → (cell 30 ≡ operand u step.a % 2 ^ 32) × (value_at ((num 1 ⊖ Main.uw) ⊗ Main.ahi) ≡ operand u step.a / 2 ^ 32)
     first_by false e lo hi = (lo ∙ low_is step.a, whole_first ns c i r (knowing ((29, is 0) ∷ []) (e, tt) bare) ∙ (hi ∙ high_is step.a))
     first_by true e lo hi = (lo ∙ low_low step.a, low_first ns c i r (knowing ((29, is 1) ∷ []) (e, tt) bare) ∙ low_high step.a)
 
   constant_is : (k : Instr) (answer : Answer) (x : Setting k answer) (b ld st jr jp br halt : ℕ) → Known ns c i r (flags 1 ld st jr jp br halt ++ always) → cell 14 ≡ low b → cell 15 ≡ high b → (value_at k answer x Main.blo ≡ low b) × (value_at k answer x Main.bhi ≡ high b)
   constant_is k answer x b ld st jr jp br halt row lo hi = let f = b_constant ns c i r 1 ld st jr jp br halt row in (f.0 ∙ lo, f.1 ∙ hi)
 
-  b_is : (k : Instr) (answer : Answer) (x : Setting k answer) → (value_at k answer x Main.blo ≡ low (recorded U number k s answer).b) × (value_at k answer x Main.bhi ≡ high (recorded U number k s answer).b)
+  b_is : (k : Instr) (answer : Answer) (x : Setting k answer) → (value_at k answer x Main.blo ≡ low (recorded number k s answer).b) × (value_at k answer x Main.bhi ≡ high (recorded number k s answer).b)
   b_is (Lui rd imm) a x = constant_is _ a x _ 0 0 0 0 0 0 (kind_row _ _ x _ (R_is _ _ x)) (ap (λ z. z.ilo) (R_is _ _ x)) (ap (λ z. z.ihi) (R_is _ _ x))
   b_is (Auipc rd imm) a x = constant_is _ a x _ 0 0 0 0 0 0 (kind_row _ _ x _ (R_is _ _ x)) (ap (λ z. z.ilo) (R_is _ _ x)) (ap (λ z. z.ihi) (R_is _ _ x))
   b_is (Jal rd imm) a x = constant_is _ a x _ 0 0 0 1 0 0 (kind_row _ _ x _ (R_is _ _ x)) (ap (λ z. z.ilo) (R_is _ _ x)) (ap (λ z. z.ihi) (R_is _ _ x))
@@ -437,18 +442,18 @@ module _ (ns : List Namespace) (c : Columns) (n : ℕ) (image : Img) (uses_low :
   b_is (Branch b rs1 rs2 imm) a x = let f = b_read ns c i r 0 0 0 0 0 1 0 (kind_row _ _ x _ (R_is _ _ x)) in (f.0 ∙ column _ _ x 24, f.1 ∙ column _ _ x 25)
   b_is (Load q rd rs1 imm) a x = constant_is _ a x _ 1 0 0 0 0 0 (kind_row _ _ x _ (R_is _ _ x)) (ap (λ z. z.ilo) (R_is _ _ x)) (ap (λ z. z.ihi) (R_is _ _ x))
   b_is (Store q rs1 rs2 imm) a x = constant_is _ a x _ 0 1 0 0 0 0 (kind_row _ _ x _ (R_is _ _ x)) (ap (λ z. z.ilo) (R_is _ _ x)) (ap (λ z. z.ihi) (R_is _ _ x))
-  b_is (OpImm o rd rs1 imm) a x = constant_is _ a x _ 0 0 0 0 0 0 (kind_row _ _ x _ (R_is _ _ x)) (ap (λ z. z.ilo) (R_is _ _ x)) (ap (λ z. z.ihi) (R_is _ _ x))
-  b_is (Op o rd rs1 rs2) a x = let f = b_read ns c i r 0 0 0 0 0 0 0 (kind_row _ _ x _ (R_is _ _ x)) in (f.0 ∙ column _ _ x 24, f.1 ∙ column _ _ x 25)
+  b_is (OpImm o rd rs1 imm uw) a x = constant_is _ a x _ 0 0 0 0 0 0 (kind_row _ _ x _ (R_is _ _ x)) (ap (λ z. z.ilo) (R_is _ _ x)) (ap (λ z. z.ihi) (R_is _ _ x))
+  b_is (Op o rd rs1 rs2 uw) a x = let f = b_read ns c i r 0 0 0 0 0 0 0 (kind_row _ _ x _ (R_is _ _ x)) in (f.0 ∙ column _ _ x 24, f.1 ∙ column _ _ x 25)
   b_is Fence a x = constant_is _ a x 0 0 0 0 0 0 0 (kind_row _ _ x _ (R_is _ _ x)) (ap (λ z. z.ilo) (R_is _ _ x) ∙ low_0) (ap (λ z. z.ihi) (R_is _ _ x) ∙ high_0)
   b_is Ecall a x = constant_is _ a x 0 0 0 0 0 0 1 (kind_row _ _ x _ (R_is _ _ x)) (ap (λ z. z.ilo) (R_is _ _ x) ∙ low_0) (ap (λ z. z.ihi) (R_is _ _ x) ∙ high_0)
   b_is Ebreak a x = constant_is _ a x 0 0 0 0 0 0 0 (kind_row _ _ x _ (R_is _ _ x)) (ap (λ z. z.ilo) (R_is _ _ x) ∙ low_0) (ap (λ z. z.ihi) (R_is _ _ x) ∙ high_0)
 
-  operation_is : (k : Instr) (answer : Answer) (x : Setting k answer) → tuple ns c 6 i r operation_terms ≡ op_tuple (op_of k) (first_operand (takes_low U k) (recorded U number k s answer).a) (recorded U number k s answer).b
+  operation_is : (k : Instr) (answer : Answer) (x : Setting k answer) → tuple ns c 6 i r Main.operation.terms ≡ op_tuple (op_of k) (operand (uw_of k) (recorded number k s answer).a) (recorded number k s answer).b
   operation_is k answer x =
-      let f = first_by k answer x (takes_low U k) (ap (λ z. z.uw) (R_is k answer x) ∙ uw_of s.pc U k) (column k answer x 22) (column k answer x 23) in
+      let f = first_by k answer x (uw_of k) (ap (λ z. z.uw) (R_is k answer x) ∙ uw_as s.pc k) (column k answer x 22) (column k answer x 23) in
       let b = b_is k answer x in
-      ap (λ n. map (value n.items (around ns c 6 i r)) operation_terms) has.main
-      ∙ eight (ap (λ z. z.op) (R_is k answer x) ∙ op_as s.pc U k) f.0 f.1 (b.0 ∙ low_is _) (b.1 ∙ high_is _) (column k answer x 26 ∙ low_is _) (column k answer x 27 ∙ high_is _) (column k answer x 28)
+      ap (λ n. map (value n.items (around ns c 6 i r)) Main.operation.terms) has.main
+      ∙ eight (ap (λ z. z.op) (R_is k answer x) ∙ op_as s.pc k) f.0 f.1 (b.0 ∙ low_is _) (b.1 ∙ high_is _) (column k answer x 26 ∙ low_is _) (column k answer x 27 ∙ high_is _) (column k answer x 28)
 
   moving_is : (k : Instr) (answer : Answer) (x : Setting k answer) (es : List (ℕ × Fact)) (v : ℕ) (ms : ℕ) → Known ns c i r es → cell 38 ≡ v / 8 % 2 ^ 16 → cell 39 ≡ v / 8 / 2 ^ 16 → cell 40 ≡ v % 8 → v < 2 ^ 32 → cell 43 ≡ low ms → cell 44 ≡ high ms → ms < 2 ^ 64 → Known ns c i r (moves ++ es)
   moving_is k answer x es v ms row wl wh off l lo hi fits =
@@ -456,25 +461,25 @@ module _ (ns : List Namespace) (c : Columns) (n : ℕ) (image : Img) (uses_low :
       knowing moves (b.0, (few_le _ b.1, (b.2, (le_low _ _ lo, (le_high _ _ hi fits, tt))))) row
 
   abbrev Sent : Instr → Answer → Type 0
-  Sent k answer = SendsAccess ns c i r (recorded U number k s answer).s (recorded U number k s answer).mem × (at_row ns c i r Main.vlo ≡ low (value_in k (recorded U number k s answer))) × (at_row ns c i r Main.vhi ≡ high (value_in k (recorded U number k s answer)))
+  Sent k answer = SendsAccess ns c i r (recorded number k s answer).s (recorded number k s answer).mem × (at_row ns c i r Main.vlo ≡ low (value_in k (recorded number k s answer))) × (at_row ns c i r Main.vhi ≡ high (value_in k (recorded number k s answer)))
 
   -- a load or a store whose address is below 2^32
   moved_by : (ld st : ℕ) (k : Instr) (q : Kind) (answer : Answer) (x : Setting k answer) (v old result : ℕ) → Known ns c i r (flags 1 ld st 0 0 0 0 ++ always) → value_at k answer x Main.ms ≡ 1 → cell 19 ≡ kind_number q → cell 38 ≡ v / 8 % 2 ^ 16 → cell 39 ≡ v / 8 / 2 ^ 16 → cell 40 ≡ v % 8 → v < 2 ^ 32 → cell 41 ≡ low old → cell 42 ≡ high old → cell 43 ≡ low result → cell 44 ≡ high result → result < 2 ^ 64
-      → (value_at k answer x Main.ms ≡ 1) × (value_at k answer x Main.w ≡ v / 8) × (tuple ns c 6 i r access_terms ≡ kind_number q ∷ v % 8 ∷ low old ∷ high old ∷ low (recorded U number k s answer).s ∷ high (recorded U number k s answer).s ∷ low result ∷ high result ∷ [])
+      → (value_at k answer x Main.ms ≡ 1) × (value_at k answer x Main.w ≡ v / 8) × (tuple ns c 6 i r Main.access.terms ≡ kind_number q ∷ v % 8 ∷ low old ∷ high old ∷ low (recorded number k s answer).s ∷ high (recorded number k s answer).s ∷ low result ∷ high result ∷ [])
   moved_by ld st k q answer x v old result row on kind wl wh off l olo ohi mlo mhi fits = (
     on,
     w_is ns c i r 1 ld st 0 0 0 0 (moving_is k answer x (flags 1 ld st 0 0 0 0 ++ always) v result row wl wh off l mlo mhi fits) ∙ index_is _ _ v wl wh,
-    ap (λ n. map (value n.items (around ns c 6 i r)) access_terms) has.main ∙ eight kind off olo ohi (column k answer x 24) (column k answer x 25) mlo mhi,
+    ap (λ n. map (value n.items (around ns c 6 i r)) Main.access.terms) has.main ∙ eight kind off olo ohi (column k answer x 24) (column k answer x 25) mlo mhi,
   )
 
-  sent_by : (k : Instr) (t : State) (x : Setting k (Next t)) → executed_with U k s ≡ Next t → of_access (λ m. m.result) (recorded U number k s (Next t)).mem < 2 ^ 64 → Sent k (Next t)
+  sent_by : (k : Instr) (t : State) (x : Setting k (Next t)) → executed k s ≡ Next t → of_access (λ m. m.result) (recorded number k s (Next t)).mem < 2 ^ 64 → Sent k (Next t)
   sent_by (Lui rd imm) t x h l = let f = v_result ns c i r 1 0 0 0 0 0 0 (kind_row _ _ x _ (R_is _ _ x)) in (ms_off ns c i r 1 0 0 0 0 0 0 (kind_row _ _ x _ (R_is _ _ x)), f.0 ∙ column _ _ x 26, f.1 ∙ column _ _ x 27)
   sent_by (Auipc rd imm) t x h l = let f = v_result ns c i r 1 0 0 0 0 0 0 (kind_row _ _ x _ (R_is _ _ x)) in (ms_off ns c i r 1 0 0 0 0 0 0 (kind_row _ _ x _ (R_is _ _ x)), f.0 ∙ column _ _ x 26, f.1 ∙ column _ _ x 27)
   sent_by (Jal rd imm) t x h l = let f = v_result ns c i r 1 0 0 0 1 0 0 (kind_row _ _ x _ (R_is _ _ x)) in (ms_off ns c i r 1 0 0 0 1 0 0 (kind_row _ _ x _ (R_is _ _ x)), f.0 ∙ column _ _ x 26, f.1 ∙ column _ _ x 27)
   sent_by (Jalr rd rs1 imm) t x h l = let f = v_link ns c i r 1 0 0 1 0 0 0 (kind_row _ _ x _ (R_is _ _ x)) in (ms_off ns c i r 1 0 0 1 0 0 0 (kind_row _ _ x _ (R_is _ _ x)), f.0 ∙ ap (λ z. z.klo) (R_is _ _ x), f.1 ∙ ap (λ z. z.khi) (R_is _ _ x))
   sent_by (Branch b rs1 rs2 imm) t x h l = let f = v_result ns c i r 0 0 0 0 0 1 0 (kind_row _ _ x _ (R_is _ _ x)) in (ms_off ns c i r 0 0 0 0 0 1 0 (kind_row _ _ x _ (R_is _ _ x)), f.0 ∙ column _ _ x 26, f.1 ∙ column _ _ x 27)
-  sent_by (OpImm o rd rs1 imm) t x h l = let f = v_result ns c i r 1 0 0 0 0 0 0 (kind_row _ _ x _ (R_is _ _ x)) in (ms_off ns c i r 1 0 0 0 0 0 0 (kind_row _ _ x _ (R_is _ _ x)), f.0 ∙ column _ _ x 26, f.1 ∙ column _ _ x 27)
-  sent_by (Op o rd rs1 rs2) t x h l = let f = v_result ns c i r 0 0 0 0 0 0 0 (kind_row _ _ x _ (R_is _ _ x)) in (ms_off ns c i r 0 0 0 0 0 0 0 (kind_row _ _ x _ (R_is _ _ x)), f.0 ∙ column _ _ x 26, f.1 ∙ column _ _ x 27)
+  sent_by (OpImm o rd rs1 imm uw) t x h l = let f = v_result ns c i r 1 0 0 0 0 0 0 (kind_row _ _ x _ (R_is _ _ x)) in (ms_off ns c i r 1 0 0 0 0 0 0 (kind_row _ _ x _ (R_is _ _ x)), f.0 ∙ column _ _ x 26, f.1 ∙ column _ _ x 27)
+  sent_by (Op o rd rs1 rs2 uw) t x h l = let f = v_result ns c i r 0 0 0 0 0 0 0 (kind_row _ _ x _ (R_is _ _ x)) in (ms_off ns c i r 0 0 0 0 0 0 0 (kind_row _ _ x _ (R_is _ _ x)), f.0 ∙ column _ _ x 26, f.1 ∙ column _ _ x 27)
   sent_by Fence t x h l = let f = v_result ns c i r 1 0 0 0 0 0 0 (kind_row _ _ x _ (R_is _ _ x)) in (ms_off ns c i r 1 0 0 0 0 0 0 (kind_row _ _ x _ (R_is _ _ x)), f.0 ∙ column _ _ x 26, f.1 ∙ column _ _ x 27)
   sent_by Ecall t x h l = let f = v_result ns c i r 1 0 0 0 0 0 1 (kind_row _ _ x _ (R_is _ _ x)) in (ms_off ns c i r 1 0 0 0 0 0 1 (kind_row _ _ x _ (R_is _ _ x)), f.0 ∙ column _ _ x 26, f.1 ∙ column _ _ x 27)
   sent_by Ebreak t x h l = let f = v_result ns c i r 1 0 0 0 0 0 0 (kind_row _ _ x _ (R_is _ _ x)) in (ms_off ns c i r 1 0 0 0 0 0 0 (kind_row _ _ x _ (R_is _ _ x)), f.0 ∙ column _ _ x 26, f.1 ∙ column _ _ x 27)
@@ -496,55 +501,63 @@ module _ (ns : List Namespace) (c : Columns) (n : ℕ) (image : Img) (uses_low :
       let f = v_result ns c i r 1 0 1 0 0 0 0 row in
       (moved_by 0 1 k q (Next t) x v _ _ row (st_on ns c i r 1 0 0 0 0 0 0 row) (ap (λ z. z.kind) (R_is k (Next t) x)) (column k (Next t) x 30) (column k (Next t) x 31) (column k (Next t) x 32) a.0 (column k (Next t) x 33) (column k (Next t) x 34) (column k (Next t) x 35) (column k (Next t) x 36) l, f.0 ∙ column k (Next t) x 26, f.1 ∙ column k (Next t) x 27)
 
-  sent_at_halt : (k : Instr) (x : Setting k Halt) → executed_with U k s ≡ Halt → Sent k Halt
+  sent_at_halt : (k : Instr) (x : Setting k Halt) → executed k s ≡ Halt → Sent k Halt
   sent_at_halt (Lui rd imm) x h = absurd (no_halt _ h)
   sent_at_halt (Auipc rd imm) x h = absurd (no_halt _ h)
   sent_at_halt (Jal rd imm) x h = absurd (jump_on s _ _ h)
   sent_at_halt (Jalr rd rs1 imm) x h = absurd (jump_on s _ _ h)
   sent_at_halt (Branch b rs1 rs2 imm) x h = absurd (branch_on (is_taken b (reg s rs1) (reg s rs2)) s _ _ h)
-  sent_at_halt (OpImm o rd rs1 imm) x h = absurd (no_halt _ h)
-  sent_at_halt (Op o rd rs1 rs2) x h = absurd (no_halt _ h)
+  sent_at_halt (OpImm o rd rs1 imm uw) x h = absurd (no_halt _ h)
+  sent_at_halt (Op o rd rs1 rs2 uw) x h = absurd (no_halt _ h)
   sent_at_halt Fence x h = absurd (no_halt _ h)
   sent_at_halt Ecall x h = let f = v_result ns c i r 1 0 0 0 0 0 1 (kind_row _ _ x _ (R_is _ _ x)) in (ms_off ns c i r 1 0 0 0 0 0 1 (kind_row _ _ x _ (R_is _ _ x)), f.0 ∙ column _ _ x 26, f.1 ∙ column _ _ x 27)
   sent_at_halt Ebreak x h = absurd (no_fault _ h)
   sent_at_halt (Load q rd rs1 imm) x h = absurd (load_on s q rd _ h)
   sent_at_halt (Store q rs1 rs2 imm) x h = absurd (store_on s q _ _ h)
 
-  no_break : (k : Instr) → ((t : State) × (executed_with U k s ≡ Next t) × (t.pc < 2 ^ 32)) ⊎ (executed_with U k s ≡ Halt) → k ≢ Ebreak
-  no_break k (inl h) e = not_on false _ h.0 (subst (λ z. executed_with U z s ≡ Next h.0) e h.1)
-  no_break k (inr h) e = no_fault _ (subst (λ z. executed_with U z s ≡ Halt) e h)
+  no_break : (k : Instr) → ((t : State) × (executed k s ≡ Next t) × (t.pc < 2 ^ 32)) ⊎ (executed k s ≡ Halt) → k ≢ Ebreak
+  no_break k (inl h) e = not_on false _ h.0 (subst (λ z. executed z s ≡ Next h.0) e h.1)
+  no_break k (inr h) e = no_fault _ (subst (λ z. executed z s ≡ Halt) e h)
 
-  complete : (step : StepRecord) (k : Instr) → Found c (rom_row s.pc U k) → ImmFits k → StandsAt ns c i r step → step.a < 2 ^ 64 → step.s < 2 ^ 64 → step.c < 2 ^ 64 → IsRow c i r (main_row U step) → step ≡ recorded U number k s (executed_with U k s)
-      → ((t : State) × (executed_with U k s ≡ Next t) × (t.pc < 2 ^ 32)) ⊎ (executed_with U k s ≡ Halt) → Meets ns c i r
+  complete : (step : StepRecord) (k : Instr) → Found c (rom_row s.pc k) → ImmFits k → StandsAt ns c i r step → step.a < 2 ^ 64 → step.s < 2 ^ 64 → step.c < 2 ^ 64 → IsRow c i r (main_row step) → step ≡ recorded number k s (executed k s)
+      → ((t : State) × (executed k s ≡ Next t) × (t.pc < 2 ^ 32)) ⊎ (executed k s ≡ Halt) → Meets ns c i r
   complete step k found fits st a v w row e (inl h) =
-      let f : step ≡ recorded U number k s (Next h.0) = e ∙ ap (λ z. recorded U number k s z) h.1 in
-      by_next k h.0 (record { found = found; fits = fits; stands = subst (λ z. StandsAt ns c i r z) f st; a_fits = subst (λ z. z.a < 2 ^ 64) f a; s_fits = subst (λ z. z.s < 2 ^ 64) f v; c_fits = subst (λ z. z.c < 2 ^ 64) f w; row = subst (λ z. IsRow c i r (main_row U z)) f row }) h.2 h.1
+      let f : step ≡ recorded number k s (Next h.0) = e ∙ ap (λ z. recorded number k s z) h.1 in
+      by_next k h.0 (record { found = found; fits = fits; stands = subst (λ z. StandsAt ns c i r z) f st; a_fits = subst (λ z. z.a < 2 ^ 64) f a; s_fits = subst (λ z. z.s < 2 ^ 64) f v; c_fits = subst (λ z. z.c < 2 ^ 64) f w; row = subst (λ z. IsRow c i r (main_row z)) f row }) h.2 h.1
   complete step k found fits st a v w row e (inr h) =
-      let f : step ≡ recorded U number k s Halt = e ∙ ap (λ z. recorded U number k s z) h in
-      by_halt k (record { found = found; fits = fits; stands = subst (λ z. StandsAt ns c i r z) f st; a_fits = subst (λ z. z.a < 2 ^ 64) f a; s_fits = subst (λ z. z.s < 2 ^ 64) f v; c_fits = subst (λ z. z.c < 2 ^ 64) f w; row = subst (λ z. IsRow c i r (main_row U z)) f row }) h
+      let f : step ≡ recorded number k s Halt = e ∙ ap (λ z. recorded number k s z) h in
+      by_halt k (record { found = found; fits = fits; stands = subst (λ z. StandsAt ns c i r z) f st; a_fits = subst (λ z. z.a < 2 ^ 64) f a; s_fits = subst (λ z. z.s < 2 ^ 64) f v; c_fits = subst (λ z. z.c < 2 ^ 64) f w; row = subst (λ z. IsRow c i r (main_row z)) f row }) h
 
-pub main_complete : MainComplete
-main_complete ns c n image uses_low i r s step h has st row =
-    let U = uses_low h.word in
-    let of : RowOf image uses_low (rom_row s.pc U h.instr) = record { pc = s.pc; word = h.word; instr = h.instr; below = h.below; fetched = h.fetched; decoded = h.decoded; no_break = no_break ns c n image uses_low i r has U h.number s h.below h.instr h.ends; is = refl } in
-    complete ns c n image uses_low i r has U h.number s h.below step h.instr (found_in has.rows c has.rom_constants _ (has.rom.all _ of)) (decoded_as h.word h.instr h.decoded).0 st h.a_fits h.s_fits h.c_fits row h.is h.ends
+-- the row of Rom of the instruction of a step
+of_step : (image : Img) (j : ℕ) (h : HasRow image j) (x : Stepped image (state_at image j)) → x.instr ≢ Ebreak → RowOf image (rom_row (state_at image j).pc x.instr)
+of_step image j h x n = record { pc = (state_at image j).pc; word = x.word; instr = x.instr; below = h.below; fetched = x.fetched; decoded = x.decoded; no_break = n; is = refl }
 
-module _ (ns : List Namespace) (c : Columns) (n : ℕ) (image : Img) (uses_low : ℕ → Bool) (i r : ℕ) (has : HasMain ns c n image uses_low) (U : Bool) (number : ℕ) (s : State) (below : s.pc < 2 ^ 32) where
-  sends : (step : StepRecord) (k : Instr) → Found c (rom_row s.pc U k) → ImmFits k → StandsAt ns c i r step → step.a < 2 ^ 64 → step.s < 2 ^ 64 → step.c < 2 ^ 64 → of_access (λ m. m.result) step.mem < 2 ^ 64 → IsRow c i r (main_row U step) → step ≡ recorded U number k s (executed_with U k s)
-      → ((t : State) × (executed_with U k s ≡ Next t) × (t.pc < 2 ^ 32)) ⊎ (executed_with U k s ≡ Halt) → Sends ns c i r U step
+pub main_complete : Ranges → MainComplete
+main_complete ranges ns c n image i r j h has st row =
+    let s = state_at image j in
+    let x = stepped image s h.ends in
+    let e = ends_as image j x h.ends in
+    let found = found_in image c has.rom _ (of_step image j h x (no_break ns c n image ranges i r has j s h.below x.instr e)) in
+    complete ns c n image ranges i r has j s h.below (record_at image j) x.instr found (decoded_as ranges x.word x.instr x.decoded).0 st h.a_fits h.s_fits h.c_fits row (record_is image j x) e
+
+module _ (ns : List Namespace) (c : Columns) (n : ℕ) (image : Img) (ranges : Ranges) (i r : ℕ) (has : HasMain ns c n image) (number : ℕ) (s : State) (below : s.pc < 2 ^ 32) where
+  sends : (step : StepRecord) (k : Instr) → Found c (rom_row s.pc k) → ImmFits k → StandsAt ns c i r step → step.a < 2 ^ 64 → step.s < 2 ^ 64 → step.c < 2 ^ 64 → of_access (λ m. m.result) step.mem < 2 ^ 64 → IsRow c i r (main_row step) → step ≡ recorded number k s (executed k s)
+      → ((t : State) × (executed k s ≡ Next t) × (t.pc < 2 ^ 32)) ⊎ (executed k s ≡ Halt) → Sends ns c i r step
   sends step k found fits st a v w m row e (inl h) =
-      let f : step ≡ recorded U number k s (Next h.0) = e ∙ ap (λ z. recorded U number k s z) h.1 in
-      let x : Setting ns c n image uses_low i r has U number s below k (Next h.0) = record { found = found; fits = fits; stands = subst (λ z. StandsAt ns c i r z) f st; a_fits = subst (λ z. z.a < 2 ^ 64) f a; s_fits = subst (λ z. z.s < 2 ^ 64) f v; c_fits = subst (λ z. z.c < 2 ^ 64) f w; row = subst (λ z. IsRow c i r (main_row U z)) f row } in
-      let g = sent_by ns c n image uses_low i r has U number s below k h.0 x h.1 (subst (λ z. of_access (λ m. m.result) z.mem < 2 ^ 64) f m) in
-      subst (λ z. Sends ns c i r U z) (sym f) (record { operation = operation_is ns c n image uses_low i r has U number s below k (Next h.0) x; access = g.0; v_low = g.1; v_high = g.2 })
+      let f : step ≡ recorded number k s (Next h.0) = e ∙ ap (λ z. recorded number k s z) h.1 in
+      let x : Setting ns c n image ranges i r has number s below k (Next h.0) = record { found = found; fits = fits; stands = subst (λ z. StandsAt ns c i r z) f st; a_fits = subst (λ z. z.a < 2 ^ 64) f a; s_fits = subst (λ z. z.s < 2 ^ 64) f v; c_fits = subst (λ z. z.c < 2 ^ 64) f w; row = subst (λ z. IsRow c i r (main_row z)) f row } in
+      let g = sent_by ns c n image ranges i r has number s below k h.0 x h.1 (subst (λ z. of_access (λ m. m.result) z.mem < 2 ^ 64) f m) in
+      subst (λ z. Sends ns c i r z) (sym f) (record { operation = operation_is ns c n image ranges i r has number s below k (Next h.0) x; access = g.0; v_low = g.1; v_high = g.2 })
   sends step k found fits st a v w m row e (inr h) =
-      let f : step ≡ recorded U number k s Halt = e ∙ ap (λ z. recorded U number k s z) h in
-      let x : Setting ns c n image uses_low i r has U number s below k Halt = record { found = found; fits = fits; stands = subst (λ z. StandsAt ns c i r z) f st; a_fits = subst (λ z. z.a < 2 ^ 64) f a; s_fits = subst (λ z. z.s < 2 ^ 64) f v; c_fits = subst (λ z. z.c < 2 ^ 64) f w; row = subst (λ z. IsRow c i r (main_row U z)) f row } in
-      let g = sent_at_halt ns c n image uses_low i r has U number s below k x h in
-      subst (λ z. Sends ns c i r U z) (sym f) (record { operation = operation_is ns c n image uses_low i r has U number s below k Halt x; access = g.0; v_low = g.1; v_high = g.2 })
+      let f : step ≡ recorded number k s Halt = e ∙ ap (λ z. recorded number k s z) h in
+      let x : Setting ns c n image ranges i r has number s below k Halt = record { found = found; fits = fits; stands = subst (λ z. StandsAt ns c i r z) f st; a_fits = subst (λ z. z.a < 2 ^ 64) f a; s_fits = subst (λ z. z.s < 2 ^ 64) f v; c_fits = subst (λ z. z.c < 2 ^ 64) f w; row = subst (λ z. IsRow c i r (main_row z)) f row } in
+      let g = sent_at_halt ns c n image ranges i r has number s below k x h in
+      subst (λ z. Sends ns c i r z) (sym f) (record { operation = operation_is ns c n image ranges i r has number s below k Halt x; access = g.0; v_low = g.1; v_high = g.2 })
 
-pub main_sends : MainSends
-main_sends ns c n image uses_low i r s step h has st m row =
-    let U = uses_low h.word in
-    let of : RowOf image uses_low (rom_row s.pc U h.instr) = record { pc = s.pc; word = h.word; instr = h.instr; below = h.below; fetched = h.fetched; decoded = h.decoded; no_break = no_break ns c n image uses_low i r has U h.number s h.below h.instr h.ends; is = refl } in
-    sends ns c n image uses_low i r has U h.number s h.below step h.instr (found_in has.rows c has.rom_constants _ (has.rom.all _ of)) (decoded_as h.word h.instr h.decoded).0 st h.a_fits h.s_fits h.c_fits m row h.is h.ends
+pub main_sends : Ranges → MainSends
+main_sends ranges ns c n image i r j h has st m row =
+    let s = state_at image j in
+    let x = stepped image s h.ends in
+    let e = ends_as image j x h.ends in
+    let found = found_in image c has.rom _ (of_step image j h x (no_break ns c n image ranges i r has j s h.below x.instr e)) in
+    sends ns c n image ranges i r has j s h.below (record_at image j) x.instr found (decoded_as ranges x.word x.instr x.decoded).0 st h.a_fits h.s_fits h.c_fits m row (record_is image j x) e

@@ -1,7 +1,7 @@
 -- What is known of each selected row of Main.
 use Rattle.std.proofs.Common.{ℕ, Bool, true, false, not, eqb, ◌≡◌, ◌≢◌, ◌<◌, ◌≤◌, ◌^◌, ◌++◌, List, [], ◌∷◌, map, Some, refl, sym, ap, subst, ◌∙◌, arith}
 use Rattle.std.proofs.lemmas.Bool.{true≢false}
-use Rattle.pil_ast.specs.Term.{Namespace, Tuples, num, ◌⊖◌, ◌⊗◌, item_at}
+use Rattle.pil_ast.specs.Term.{Namespace, num, ◌⊖◌, ◌⊗◌, item_at}
 use Rattle.pil_ast.specs.Columns.{Columns}
 use Rattle.pil_ast.specs.Value.{around, value}
 use Rattle.pil_ast.specs.Holds.{sent, tuple}
@@ -13,12 +13,14 @@ use Rattle.machine_text.specs.Main
 use Rattle.machine_text.specs.Main.{items}
 use Rattle.machine_text.specs.Rom
 use Rattle.rv_model.specs.Image.{Img}
-use Rattle.air_main.specs.Rom.{RomRow, RowOf, rom_row, one_if}
-use Rattle.air_main.specs.Step.{IsOperation, IsAccess}
-use Rattle.air_main.specs.Law.{HasMain, Meets as MeetsMain, IsRomPc, operation_terms, access_terms}
+use Rattle.step_rows.specs.Words.{one_if}
+use Rattle.step_rows.specs.Rom.{RomRow, rom_row}
+use Rattle.step_rows.specs.Tuples.{IsOperation, IsAccess}
+use Rattle.air_main.proofs.Rom.{RowOf}
+use Rattle.air_main.specs.Law.{HasMain, Meets as MeetsMain, IsRomPc}
 use Rattle.air_main.proofs.Table.{listed, rom_at, rom_selected, Operates, operates, Aligns, aligns}
 use Rattle.air_main.proofs.Fields.{row_of, row_pc, Small, row_small}
-use Rattle.air_main.proofs.Decoded.{decoded_as, ImmFits, RegsBelow}
+use Rattle.air_main.proofs.Decoded.{Ranges, decoded_as, ImmFits, RegsBelow}
 use Rattle.air_main.proofs.Facts.{limb, flags, always, moves, Known}
 
 le_of : (x : ℕ) → x < 4294967296 → x ≤ limb
@@ -46,10 +48,10 @@ set_to v h = ap (λ v. not (eqb v 0)) h
 pub not_none : (x : ℕ) → x ≡ 0 → x ≡ 1 → ⊥
 not_none x h k = omega arith
 
-module _ (ns : List Namespace) (c : Columns) (n : ℕ) (image : Img) (uses_low : ℕ → Bool) (has : HasMain ns c n image uses_low) where
+module _ (ns : List Namespace) (c : Columns) (n : ℕ) (image : Img) (ranges : Ranges) (has : HasMain ns c n image) where
   -- where a number is the PC of a selected row of Rom, it is that of an instruction
-  pub rom_pc : (pc : ℕ) → IsRomPc c pc → (row : RomRow) × RowOf image uses_low row × (pc ≡ row.pc)
-  rom_pc pc h = (rom_at image uses_low c h.0 h.1, rom_selected image uses_low has.rows c has.rom has.rom_constants h.0 h.1 h.2 h.3 h.4, h.5)
+  pub rom_pc : (pc : ℕ) → IsRomPc c pc → (row : RomRow) × RowOf image row × (pc ≡ row.pc)
+  rom_pc pc h = (rom_at c h.0 h.1, rom_selected image c has.rom h.0 h.1 h.2 h.3 h.4, h.5)
 
   module _ (i r : ℕ) (meets : MeetsMain ns c i r) where
     abbrev pub at : ℕ → ℕ
@@ -69,25 +71,23 @@ module _ (ns : List Namespace) (c : Columns) (n : ℕ) (image : Img) (uses_low :
       abbrev pub R : RomRow
       R = row_of (listed at 9 21)
 
-      pub entry : RowOf image uses_low R
+      pub entry : RowOf image R
       entry =
-          let t = map (value items (around ns c 6 i r)) (Main.pc ∷ Main.rs1 ∷ Main.rs2 ∷ Main.rd ∷ Main.op ∷ Main.ilo ∷ Main.ihi ∷ Main.klo ∷ Main.khi ∷ Main.jt ∷ Main.kind ∷ Main.bi ∷ Main.wr ∷ Main.ld ∷ Main.st ∷ Main.jr ∷ Main.jp ∷ Main.br ∷ Main.inv ∷ Main.halt ∷ Main.uw ∷ []) in
-          let b : Tuples = record { space = 4; sel = Some Rom.SEL; terms = Rom.PC ∷ Rom.RS1 ∷ Rom.RS2 ∷ Rom.RD ∷ Rom.OP ∷ Rom.ILO ∷ Rom.IHI ∷ Rom.KLO ∷ Rom.KHI ∷ Rom.JT ∷ Rom.KIND ∷ Rom.BI ∷ Rom.WR ∷ Rom.LD ∷ Rom.ST ∷ Rom.JR ∷ Rom.JP ∷ Rom.BR ∷ Rom.INV ∷ Rom.HALT ∷ Rom.UW ∷ [] } in
-          let s = from_sent ns c b t (says 61 (set_to _ selected)) in
-          let e : rom_at image uses_low c s.instance s.row ≡ R = ap row_of s.is_tuple in
-          subst (λ q. RowOf image uses_low q) e (rom_selected image uses_low has.rows c has.rom has.rom_constants s.instance s.row s.is_instance s.is_row (set_from _ s.is_selected))
+          let s = from_sent ns c Rom.instruction (map (value items (around ns c 6 i r)) Main.instruction.terms) (says 61 (set_to _ selected)) in
+          let e : rom_at c s.instance s.row ≡ R = ap row_of s.is_tuple in
+          subst (λ q. RowOf image q) e (rom_selected image c has.rom s.instance s.row s.is_instance s.is_row (set_from _ s.is_selected))
 
-      pub is_row : R ≡ rom_row entry.pc (uses_low entry.word) entry.instr
+      pub is_row : R ≡ rom_row entry.pc entry.instr
       is_row = entry.is
 
       pub fits_of : ImmFits entry.instr × RegsBelow entry.instr
-      fits_of = decoded_as entry.word entry.instr entry.decoded
+      fits_of = decoded_as ranges entry.word entry.instr entry.decoded
 
       pub small_row : Small R
-      small_row = subst (λ q. Small q) (sym is_row) (row_small entry.pc (uses_low entry.word) entry.instr fits_of.0)
+      small_row = subst (λ q. Small q) (sym is_row) (row_small entry.pc entry.instr fits_of.0)
 
       pub pc_entry : at 9 ≡ entry.pc
-      pc_entry = ap (λ q. q.pc) is_row ∙ row_pc _ _ _
+      pc_entry = ap (λ q. q.pc) is_row ∙ row_pc _ _
 
       -- the pc of a selected row has 32 bits
       pub pc_below : at 9 ≤ limb
@@ -105,12 +105,12 @@ module _ (ns : List Namespace) (c : Columns) (n : ℕ) (image : Img) (uses_low :
       abbrev pub stores : ℕ
       stores = value items (around ns c 6 i r) Main.ms
 
-      module _ (operation : IsOperation (tuple ns c 6 i r operation_terms)) (access : stores ≢ 0 → IsAccess (tuple ns c 6 i r access_terms)) (a_high : at 31 < 4294967296) (s_low : at 32 < 4294967296) (s_high : at 33 < 4294967296) where
+      module _ (operation : IsOperation (tuple ns c 6 i r Main.operation.terms)) (access : stores ≢ 0 → IsAccess (tuple ns c 6 i r Main.access.terms)) (a_high : at 31 < 4294967296) (s_low : at 32 < 4294967296) (s_high : at 33 < 4294967296) where
         pub op : Operates (at 13) (at 30) high_first b_low b_high (at 34) (at 35) (at 36)
-        op = operates _ _ _ _ _ _ _ _ (subst IsOperation (ap (λ n. map (value n.items (around ns c 6 i r)) operation_terms) has.main) operation)
+        op = operates _ _ _ _ _ _ _ _ (subst IsOperation (ap (λ n. map (value n.items (around ns c 6 i r)) Main.operation.terms) has.main) operation)
 
         pub moved : stores ≢ 0 → Aligns (at 19) (at 40) (at 41) (at 42) (at 32) (at 33) (at 43) (at 44)
-        moved some = aligns _ _ _ _ _ _ _ _ (subst IsAccess (ap (λ n. map (value n.items (around ns c 6 i r)) access_terms) has.main) (access some))
+        moved some = aligns _ _ _ _ _ _ _ _ (subst IsAccess (ap (λ n. map (value n.items (around ns c 6 i r)) Main.access.terms) has.main) (access some))
 
         pub within : AllMeet always at
         within =
