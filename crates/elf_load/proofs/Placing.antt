@@ -6,8 +6,8 @@ use Rattle.std.proofs.lemmas.Bool.{and_parts, and_from, ltb-true, lt-ltb, ltb-fa
 use Rattle.std.proofs.lemmas.List.{get_or-map, length-map, length-take}
 use Rattle.std.proofs.lemmas.List.Sums.{sum_by-cons, sum-map}
 use Rattle.std.proofs.lemmas.List.Sorted.{All-permutation, Contains-permutation, sum_by-IsPermutation}
-use Rattle.std.proofs.lemmas.List.Elements.{All-filter, All-map, filter_passes}
-use Rattle.rv_model.specs.Image.{Seg, Img, IsSegment, IsLoadable, fetch, covers, word_in, EndsBefore as SegEndsBefore}
+use Rattle.std.proofs.lemmas.List.Elements.{All-filter, All-map, All-take, All-drop, filter_passes}
+use Rattle.rv_model.specs.Image.{Seg, Img, AreBytes, IsSegment, IsLoadable, fetch, covers, word_in, EndsBefore as SegEndsBefore}
 use Rattle.rv_model.specs.declared.machine.TheConstants.{MEMORY_END, INPUT_START, INPUT_LEN, OUTPUT_START, OUTPUT_LEN, MOST_LOADED}
 use Rattle.elf_load.specs.File.{e_entry, e_phnum, header, headers_of, At}
 use Rattle.elf_load.specs.Header.{has_memory, is_load, is_executable}
@@ -93,8 +93,8 @@ off_range a n b m some other apart =
     ]
 
 -- the segment of a header that is placed
-segment_fits : (file : List ℕ) (h : ProgramHeader) → IsPlaced (length file) h → IsSegment (segment file h)
-segment_fits file h p =
+pub segment_fits : (file : List ℕ) (h : ProgramHeader) → AreBytes file → IsPlaced (length file) h → IsSegment (segment file h)
+segment_fits file h octets p =
     let loads = and_parts (is_load h) (nat_lt 0 h.p_memsz) p.memory in
     let some : 0 < h.p_memsz = ltb-true 0 h.p_memsz loads.1 in
     let below : h.p_vaddr + h.p_memsz ≤ MEMORY_END = ltb-false MEMORY_END (h.p_vaddr + h.p_memsz) (second_false (has_memory h) _ p.memory p.below) in
@@ -105,6 +105,7 @@ segment_fits file h p =
       some = some;
       below = below;
       bytes_fit = omega (arith, length-take h.p_filesz (drop h.p_offset file));
+      octets = All-take (λ b. b < 256) h.p_filesz (drop h.p_offset file) (All-drop (λ b. b < 256) h.p_offset file octets);
       off_input = off_range h.p_vaddr h.p_memsz INPUT_START INPUT_LEN some (omega arith) (λ e. let no = windows.0 in cc);
       off_output = off_range h.p_vaddr h.p_memsz OUTPUT_START OUTPUT_LEN some (omega arith) (λ e. let no = windows.1 in cc);
     }
@@ -195,12 +196,13 @@ abbrev pub image : List ℕ → List ℕ → List ProgramHeader → Img
 image file input sorted = record { entry = e_entry file; segments = map (segment file) sorted; input = input }
 
 -- it is what each image has to be
-pub loadable : (file input : List ℕ) (sorted : List ProgramHeader) → Passes file → Ascends (headers_of file) sorted → length input + 8 ≤ INPUT_LEN → IsLoadable (image file input sorted)
-loadable file input sorted pass s fits = record {
-  segments = All-map IsSegment (segment file) sorted (λ i d l. segment_fits file (get_or sorted i d) (all_placed file sorted pass s i d l));
+pub loadable : (file input : List ℕ) (sorted : List ProgramHeader) → AreBytes file → AreBytes input → Passes file → Ascends (headers_of file) sorted → length input + 8 ≤ INPUT_LEN → IsLoadable (image file input sorted)
+loadable file input sorted octets given pass s fits = record {
+  segments = All-map IsSegment (segment file) sorted (λ i d l. segment_fits file (get_or sorted i d) octets (all_placed file sorted pass s i d l));
   ascending = pairs_map SegEndsBefore (segment file) sorted (header file 0) (sorted_apart file sorted s (λ i j. pass (Overlap i j)));
   loaded = few_bytes file sorted pass s;
   input = fits;
+  octets = given;
   entry = true_unless _ (λ none. pass (EntryOutside (e_entry file)) (refl, λ w. let some = word_fetched file input sorted (e_entry file) s w in cc));
 }
 

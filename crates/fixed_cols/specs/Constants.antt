@@ -9,8 +9,10 @@ use Rattle.zk_layout.specs.declared.air.Air.TheVariants as airs
 use Rattle.zk_layout.specs.declared.namespace.Namespace.{Namespace}
 use Rattle.zk_layout.specs.declared.namespace.Namespace.TheVariants.{Bit, Range16, BinTab, ShiftTab, Rom, Init, Main, Mem, Out, Align, Binary, Shift, Arith}
 use Rattle.step_rows.specs.Words.{low, high, one_if}
-use Rattle.step_rows.specs.Rom.{RomRow, cells, rom_rows}
-use Rattle.step_rows.specs.Initial.{Doubleword, initial_doublewords}
+use Rattle.step_rows.specs.declared.rom_row.RomRow.{RomRow}
+use Rattle.step_rows.specs.Rom.{cells, rom_rows}
+use Rattle.step_rows.specs.Initial.{initial_doublewords}
+use Rattle.step_rows.specs.declared.doubleword.Doubleword.{Doubleword}
 use Rattle.step_rows.specs.ShiftRow.{table_row}
 
 -- ---- the rows of tables that are the same for every program; past their end all cells are 0

@@ -1,18 +1,20 @@
 //! A queue of capacity 1 and 2 shares.
 use super::*;
-use rv_model::{Image, Segment};
+use rv_model::{Image, Segment, bytes_law};
 use std::alloc::{AllocError, Global};
 use std::sync::Arc;
 use std::test::Fail;
 
 // The image of ECALL alone, which no test runs.
 fn image(alloc: Global) -> Result<Image, AllocError> {
+    let bytes = [0x73, 0, 0, 0].to_vec(alloc)?;
+    bytes_law(&bytes);
     let mut segments = Vec::new(alloc);
     segments.push(Segment {
         start: 0,
         len: 4,
         exec: true,
-        bytes: [0x73, 0, 0, 0].to_vec(alloc)?,
+        bytes,
     })?;
     let input = Vec::new(alloc);
     Image::new(alloc, 0, segments, input)

@@ -4,9 +4,11 @@
 #![tactic(auto)]
 
 mod laws;
+mod part;
 mod source;
 
 pub use laws::machine_lines;
+pub use part::take_out;
 pub use source::{machine, text};
 
 #[cfg(test)]

@@ -1,6 +1,6 @@
 //! Reads and writes at the edges of pages, over a small image.
 use crate::Memory;
-use rv_model::{Image, Segment};
+use rv_model::{Image, Segment, bytes_law};
 use std::alloc::{AllocError, Global};
 use std::sync::Arc;
 use std::test::Fail;
@@ -12,13 +12,15 @@ fn image(alloc: Global) -> Result<Image, AllocError> {
     let bytes = [
         0x73, 0x00, 0x00, 0x00, 0x05, 0x06, 0x07, 0x08, 0x09, 0x0A, 0x0B, 0x0C, 0x0D, 0x0E, 0x0F,
         0x10,
-    ];
+    ]
+    .to_vec(alloc)?;
+    bytes_law(&bytes);
     let mut segments = Vec::new(alloc);
     segments.push(Segment {
         start: 0x1_0FF8,
         len: 16,
         exec: true,
-        bytes: bytes.to_vec(alloc)?,
+        bytes,
     })?;
     Image::new(alloc, 0x1_0FF8, segments, Vec::new(alloc))
 }

@@ -25,12 +25,17 @@ use Rattle.min_trace.specs.Chunk.{IsStep}
 use Rattle.min_trace.specs.Laws.{Accesses, IsActAt, is_taken_by, leads_to, value_in, written_by}
 use Rattle.min_trace.specs.After.{with_written, with_stored, after}
 use Rattle.min_trace.specs.Bounds.{IsState, IsAct, IsRecord}
-use Rattle.min_trace.proofs.Values.{access_below}
-use Rattle.min_trace.proofs.Values as values
 use Rattle.min_trace.proofs.Steps.{state_more}
 use Rattle.min_trace.proofs.Completes.{AreRegisters, registers_at, in_range_at}
 use Rattle.min_trace.proofs.Facts.{accesses_at, leads_at, writes_at}
 use Rattle.min_trace.proofs.After.{Found, Ranged, after_at}
+
+-- what the laws of the crates below say of decoding and of 64-bit numbers
+pub record FromBelow : Type 0 where
+  pub found : Found
+  pub range : Ranged
+  pub operations : (o : OpNo) (a b : ℕ) → a < 2 ^ 64 → b < 2 ^ 64 → value_of o a b < 2 ^ 64
+  pub accesses : (k : Kind) (off old value : ℕ) → off < 8 → old < 2 ^ 64 → value < 2 ^ 64 → aligned k off old value < 2 ^ 64
 
 -- immediates
 imm_below : (z : ℤ) (m : ℕ) → z <ℤ pos m → m ≤ 2 ^ 31 → bits_of z < 2 ^ 64
@@ -67,31 +72,31 @@ second_below Fence s r is = omega arith
 second_below Ecall s r is = omega arith
 second_below Ebreak s r is = omega arith
 
-act_below : (k : Kind) (value : ℕ) (r : StepRecord) (word : ℕ → ℕ) → ((j : ℕ) → word j < 2 ^ 64) → value < 2 ^ 64 → IsActAt k value r word → IfSome r.mem IsAct
-act_below k value r word words below is =
+act_below : FromBelow → (k : Kind) (value : ℕ) (r : StepRecord) (word : ℕ → ℕ) → ((j : ℕ) → word j < 2 ^ 64) → value < 2 ^ 64 → IsActAt k value r word → IfSome r.mem IsAct
+act_below laws k value r word words below is =
     subst (λ (m : Option MemAct). IfSome m IsAct) (sym is.2) (record {
       index = omega (arith, is.1);
       off = omega arith;
       old = words (r.c / 8);
-      result = access_below k (r.c % 8) (word (r.c / 8)) value (omega arith) (words (r.c / 8)) below;
+      result = laws.accesses k (r.c % 8) (word (r.c / 8)) value (omega arith) (words (r.c / 8)) below;
     })
 
 none_below : (r : StepRecord) → r.mem ≡ None → IfSome r.mem IsAct
 none_below r is = subst (λ (m : Option MemAct). IfSome m IsAct) (sym is) tt
 
-mem_below : (i : Instr) (r : StepRecord) (word : ℕ → ℕ) → ((j : ℕ) → word j < 2 ^ 64) → r.s < 2 ^ 64 → Accesses i r word → IfSome r.mem IsAct
-mem_below (Load kind rd rs1 imm) r word words s is = act_below kind 0 r word words (omega arith) is
-mem_below (Store kind rs1 rs2 imm) r word words s is = act_below kind r.s r word words s is
-mem_below (Lui rd imm) r word words s is = none_below r is
-mem_below (Auipc rd imm) r word words s is = none_below r is
-mem_below (Jal rd imm) r word words s is = none_below r is
-mem_below (Jalr rd rs1 imm) r word words s is = none_below r is
-mem_below (Branch cond rs1 rs2 imm) r word words s is = none_below r is
-mem_below (OpImm op rd rs1 imm uw) r word words s is = none_below r is
-mem_below (Op op rd rs1 rs2 uw) r word words s is = none_below r is
-mem_below Fence r word words s is = none_below r is
-mem_below Ecall r word words s is = none_below r is
-mem_below Ebreak r word words s is = none_below r is
+mem_below : FromBelow → (i : Instr) (r : StepRecord) (word : ℕ → ℕ) → ((j : ℕ) → word j < 2 ^ 64) → r.s < 2 ^ 64 → Accesses i r word → IfSome r.mem IsAct
+mem_below laws (Load kind rd rs1 imm) r word words s is = act_below laws kind 0 r word words (omega arith) is
+mem_below laws (Store kind rs1 rs2 imm) r word words s is = act_below laws kind r.s r word words s is
+mem_below laws (Lui rd imm) r word words s is = none_below r is
+mem_below laws (Auipc rd imm) r word words s is = none_below r is
+mem_below laws (Jal rd imm) r word words s is = none_below r is
+mem_below laws (Jalr rd rs1 imm) r word words s is = none_below r is
+mem_below laws (Branch cond rs1 rs2 imm) r word words s is = none_below r is
+mem_below laws (OpImm op rd rs1 imm uw) r word words s is = none_below r is
+mem_below laws (Op op rd rs1 rs2 uw) r word words s is = none_below r is
+mem_below laws Fence r word words s is = none_below r is
+mem_below laws Ecall r word words s is = none_below r is
+mem_below laws Ebreak r word words s is = none_below r is
 
 loaded_below : (m : Option MemAct) → IfSome m IsAct → option_map_or (λ (n : MemAct). n.result) m 0 < 2 ^ 64
 loaded_below None h = omega arith
@@ -134,25 +139,25 @@ record Computed (r : StepRecord) : Type 0 where
   pub b : r.b < 2 ^ 64
   pub c : r.c < 2 ^ 64
 
-computed_at : Found → Ranged → (image : Img) (j : ℕ) → IsState (state_at image j) → Computed (record_at image j)
+computed_at : FromBelow → (image : Img) (j : ℕ) → IsState (state_at image j) → Computed (record_at image j)
 unfolding record_at
-computed_at found range image j is =
+computed_at laws image j is =
     let i : Instr = instr_at image j in
     let s : State = state_at image j in
-    let b : second i (cpu_of s) < 2 ^ 64 = second_below i s (in_range_at found range image j) is in
+    let b : second i (cpu_of s) < 2 ^ 64 = second_below i s (in_range_at laws.found laws.range image j) is in
     record {
       pc = is.pc;
       a = is.registers (rs1_of i);
       s = is.registers (rs2_of i);
       b = b;
-      c = values.value_below (op_of i) (operand (uw_of i) (get_or s.x (rs1_of i) 0)) (second i (cpu_of s)) (operand_below (uw_of i) (get_or s.x (rs1_of i) 0) (is.registers (rs1_of i))) b;
+      c = laws.operations (op_of i) (operand (uw_of i) (get_or s.x (rs1_of i) 0)) (second i (cpu_of s)) (operand_below (uw_of i) (get_or s.x (rs1_of i) 0) (is.registers (rs1_of i))) b;
     }
 
-pub record_below : Found → Ranged → (image : Img) (j : ℕ) → IsState (state_at image j) → IsStep (step_at image j) → IsRecord (record_at image j)
-record_below found range image j is h =
+pub record_below : FromBelow → (image : Img) (j : ℕ) → IsState (state_at image j) → IsStep (step_at image j) → IsRecord (record_at image j)
+record_below laws image j is h =
     let r : StepRecord = record_at image j in
-    let known : Computed r = computed_at found range image j is in
-    let mem : IfSome r.mem IsAct = mem_below r.instr r (state_at image j).word is.words known.s (accesses_at image j h) in
+    let known : Computed r = computed_at laws image j is in
+    let mem : IfSome r.mem IsAct = mem_below laws r.instr r (state_at image j).word is.words known.s (accesses_at image j h) in
     record {
       pc = known.pc;
       a = known.a;
@@ -160,7 +165,7 @@ record_below found range image j is h =
       b = known.b;
       c = known.c;
       mem = mem;
-      rd = let P : Option (ℕ × ℕ) → Type 0 = λ o. IfSome o (λ w. w.1 < 2 ^ 64) in subst P (sym (writes_at found range image j h)) (written_with (rd_of r.instr) (value_in r.instr r) (value_below r.instr r known.c mem));
+      rd = let P : Option (ℕ × ℕ) → Type 0 = λ o. IfSome o (λ w. w.1 < 2 ^ 64) in subst P (sym (writes_at laws.found laws.range image j h)) (written_with (rd_of r.instr) (value_in r.instr r) (value_below r.instr r known.c mem));
       next = subst (λ o. IfSome o Below) (sym (leads_at image j h)) (leads_below r.instr r known.c);
     }
 
@@ -219,12 +224,12 @@ state_first : (image : Img) → image.entry < 2 ^ 64 → ((k : ℕ) → initial_
 unfolding state_at
 state_first image entry words = record { pc = entry; count = refl; zero = refl; registers = zeros_below; words = words }
 
-pub state_below : Found → Ranged → (image : Img) → image.entry < 2 ^ 64 → ((k : ℕ) → initial_word image k < 2 ^ 64) → (j : ℕ) → IsState (state_at image j)
-state_below found range image entry words zero = state_first image entry words
-state_below found range image entry words (suc j) =
-    let is : IsState (state_at image j) = state_below found range image entry words j in
+pub state_below : FromBelow → (image : Img) → image.entry < 2 ^ 64 → ((k : ℕ) → initial_word image k < 2 ^ 64) → (j : ℕ) → IsState (state_at image j)
+state_below laws image entry words zero = state_first image entry words
+state_below laws image entry words (suc j) =
+    let is : IsState (state_at image j) = state_below laws image entry words j in
     let next : j + 1 ≡ suc j = omega arith in
     subst (λ n. IsState (state_at image n)) next (elim (leads_or_stays (step_at image j)) [
-      | inl h ↦ state_onward image j (state_at image j) (record_at image j) (after_at found range image j h) is (record_below found range image j is h)
+      | inl h ↦ state_onward image j (state_at image j) (record_at image j) (after_at laws.found laws.range image j h) is (record_below laws image j is h)
       | inr stays ↦ subst IsState (sym (state_more image j ∙ stays (state_at image j))) is
     ])

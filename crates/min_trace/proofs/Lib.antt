@@ -5,5 +5,3 @@ pub mod Facts
 pub mod After
 pub mod Pieces
 pub mod Bounds
-pub mod Values
-pub mod Beginning

@@ -1,14 +1,8 @@
 -- How large the numbers of a run are.
-use Rattle.std.specs.Prelude.{◌≡◌, ℕ, ◌^◌, ◌<◌, All, length, slice_index, IfSome}
-use Rattle.rv_model.specs.Image.{Img, Seg}
+use Rattle.std.specs.Prelude.{◌≡◌, ℕ, ◌^◌, ◌<◌, length, slice_index, IfSome}
 use Rattle.rv_model.specs.State.{State}
 use Rattle.min_trace.specs.declared.record.MemAct.{MemAct}
 use Rattle.min_trace.specs.declared.record.StepRecord.{StepRecord}
-
--- the bytes of an image are bytes
-pub record HasBytes (image : Img) : Type 0 where
-  pub segments : All (λ (s : Seg). All (λ b. b < 2 ^ 8) s.bytes) image.segments
-  pub input : All (λ b. b < 2 ^ 8) image.input
 
 -- a state of 64-bit numbers, with 32 registers of which x0 is 0
 pub record IsState (s : State) : Type 0 where

@@ -10,8 +10,9 @@ ghost use Rattle.rv_model.specs.Run.{state_at, step_at, IsNext};
 ghost use Rattle.min_trace.specs.Chunk.{Piece, IsStep, IsChunk};
 ghost use Rattle.min_trace.specs.Record.{instr_at, old_of, old_at, act, record_at, records_between};
 ghost use Rattle.min_trace.specs.After.{after};
-ghost use Rattle.min_trace.specs.Bounds.{HasBytes, IsState, IsRecord};
+ghost use Rattle.min_trace.specs.Bounds.{IsState, IsRecord};
 
+use rv_model::{values_law, words_law};
 use rv_word::decoding_law;
 
 /// The instruction of a step's record is the one at its pc; its operands are in range, and the registers that it names are
@@ -52,11 +53,13 @@ pub fn chunk_law()
     ensures piece { (image : Img) (n first count : ℕ) → first + count ≤ n → records_between image first count ≡ take count (drop first (records_between image 0 n)) }
 {}
 
-/// The numbers of a run whose image has bytes are those of 64 bits: of its states, and of its records, whose accesses are
-/// to doublewords of the memory.
+/// The numbers of an image's run are those of 64 bits: of its states, and of its records, whose accesses are to
+/// doublewords of the memory.
 pub fn bounds_law()
-    ensures states { (image : Img) → IsLoadable image → HasBytes image → (j : ℕ) → IsState (state_at image j) }
-    ensures records { (image : Img) → IsLoadable image → HasBytes image → (j : ℕ) → IsStep (step_at image j) → IsRecord (record_at image j) }
+    ensures states { (image : Img) → IsLoadable image → (j : ℕ) → IsState (state_at image j) }
+    ensures records { (image : Img) → IsLoadable image → (j : ℕ) → IsStep (step_at image j) → IsRecord (record_at image j) }
 {
     decoding_law();
+    words_law();
+    values_law();
 }

@@ -2,3 +2,4 @@ pub mod Lists
 pub mod Steps
 pub mod Runs
 pub mod Later
+pub mod Taken

@@ -1,10 +1,11 @@
 -- The steps of a job.
-use Rattle.std.specs.Prelude.{ℕ, List, [], ◌∷◌, ◌++◌, map, take, drop}
+use Rattle.std.specs.Prelude.{◌≡◌, ℕ, List, [], ◌∷◌, ◌++◌, map, take, drop}
 use Rattle.std.specs.List.{range_with_len}
 use Rattle.rv_model.specs.Image.{Img}
 use Rattle.zk_layout.specs.declared.air.Air.{Air}
-use Rattle.min_trace.specs.Chunk.{Piece, first_step}
-use Rattle.min_trace.specs.Record.{records_between}
+use Rattle.rv_model.specs.Run.{step_at}
+use Rattle.min_trace.specs.Chunk.{Piece, IsStep, first_step}
+use Rattle.min_trace.specs.Record.{record_at, records_between}
 use Rattle.min_trace.specs.declared.record.StepRecord.{StepRecord}
 use Rattle.planner.specs.Rows.{with_row}
 use Rattle.planner.specs.declared.job.Part.{Part}
@@ -28,3 +29,9 @@ abbrev pub all_named : Air → Img → List Part → List Piece → List StepRec
 all_named air image [] cs = []
 all_named air image (p ∷ ps) [] = []
 all_named air image (p ∷ ps) (c ∷ cs) = named_in air image p c ++ all_named air image ps cs
+
+-- a record of a run is that of a step that doesn't fault
+pub record IsRecordOf (image : Img) (r : StepRecord) : Type 0 where
+  pub number : ℕ
+  pub step : IsStep (step_at image number)
+  pub is : r ≡ record_at image number

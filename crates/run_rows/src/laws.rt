@@ -1,16 +1,16 @@
 //! What the chunks, counts and jobs of a run have to do with its rows.
-ghost use Rattle.std.specs.Prelude.{◌≡◌, ◌+◌, ◌<◌, ◌∷◌, [], ◌++◌, ℕ, All, drop, length};
+ghost use Rattle.std.specs.Prelude.{◌≡◌, ◌+◌, ◌<◌, ◌∷◌, [], ◌++◌, ℕ, true, List, All, drop, length};
 ghost use Rattle.std.specs.List.{flat_map, range_with_len};
 ghost use Rattle.rv_model.specs.Image.{Img};
 ghost use Rattle.zk_layout.specs.declared.air.Air.{Air};
 ghost use Rattle.min_trace.specs.Chunk.{Piece, IsChunk, first_step};
 ghost use Rattle.min_trace.specs.Record.{records_between};
 ghost use Rattle.planner.specs.declared.job.Job.{Job};
-ghost use Rattle.planner.specs.Rows.{counted};
+ghost use Rattle.planner.specs.Rows.{counted, has_row};
 ghost use Rattle.planner.specs.Jobs.{parts, all_chosen, total, instances, IsJobIn, IsWholeIn};
 ghost use Rattle.run_rows.specs.Runs.{chunks_of, chunk_of, chunks_to, counts_to, named_by, Later, Halts, IsJobOf};
 ghost use Rattle.run_rows.specs.Tables.{records_of};
-ghost use Rattle.run_rows.specs.Gathered.{by_chunk, steps_of};
+ghost use Rattle.run_rows.specs.Gathered.{by_chunk, steps_of, IsRecordOf};
 
 use min_trace::StepRecord;
 use planner::{parts_of_a_job, rows_are_counted, rows_of_a_job, whole_jobs_stay};
@@ -44,4 +44,13 @@ pub fn jobs_of_a_run()
 {
     parts_of_a_job();
     whole_jobs_stay();
+}
+
+/// What is gathered for a job are steps of the run that have a row of the air.
+pub fn steps_of_a_job()
+    ensures steps { (image : Img) (n : ℕ) (j : Job) (chunks : List Piece) → IsJobOf image n j chunks → All (IsRecordOf image) (steps_of j.air image n j.instance) }
+    ensures rows { (air : Air) (image : Img) (n i : ℕ) → All (λ r. has_row air r ≡ true) (steps_of air image n i) }
+{
+    rows_are_counted();
+    rows_of_a_job::<StepRecord>();
 }

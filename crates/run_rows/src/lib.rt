@@ -5,4 +5,4 @@ mod gathering;
 mod laws;
 
 pub use gathering::{FromStep, gather};
-pub use laws::{chunks_of_a_run, jobs_of_a_run, rows_of_a_run};
+pub use laws::{chunks_of_a_run, jobs_of_a_run, rows_of_a_run, steps_of_a_job};

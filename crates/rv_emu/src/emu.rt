@@ -8,7 +8,7 @@ use crate::stepping::go_on;
 use crate::window::public;
 use mem_pages::Memory;
 use min_trace::{Chunk, STEPS_PER_CHUNK, execution_law};
-use rv_model::{Cpu, Image, Public, RunEnd, StepAnswer};
+use rv_model::{Cpu, Image, Public, RunEnd, StepAnswer, run_law};
 use std::alloc::{AllocError, Global};
 use std::marker::Model;
 use std::sync::Arc;
@@ -103,6 +103,7 @@ impl Emu {
         ensures ends { EndsBy result self.old.limit (end_within self.old.image self.old.limit) }
     {
         execution_law();
+        run_law();
         let most = (self.limit - STEPS_PER_CHUNK * self.number).min(STEPS_PER_CHUNK);
         let Ok(answer) = go_on(
             &self.image,

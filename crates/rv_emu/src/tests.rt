@@ -4,7 +4,7 @@ ghost use Rattle.min_trace.specs.Chunk.{IsChunk};
 
 use crate::{Emu, Step};
 use min_trace::{Chunk, Replay};
-use rv_model::{Image, PlainCpu, RunEnd, RunFault, Segment};
+use rv_model::{Image, PlainCpu, RunEnd, RunFault, Segment, bytes_law};
 use std::alloc::{AllocError, Global};
 use std::process::Abort;
 use std::sync::Arc;
@@ -37,6 +37,7 @@ fn image_of(alloc: Global, words: &[u32]) -> Result<Option<Arc<Image>>, AllocErr
     if bytes.len() < 4 || bytes.len() > 65536 {
         return Ok(None);
     }
+    bytes_law(&bytes);
     let mut segments = Vec::new(alloc);
     segments.push(Segment {
         start: START,

@@ -6,3 +6,5 @@ pub mod Steps
 pub mod ByteMemory
 pub mod Decoded
 pub mod ByteSteps
+pub mod Values
+pub mod Beginning

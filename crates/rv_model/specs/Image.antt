@@ -69,11 +69,16 @@ kept_if p (Some s) = if p s then Some s else None
 abbrev pub IsOff : ℕ → ℕ → Seg → Type 0
 IsOff low high s = (s.start + s.len ≤ low) ⊎ (high ≤ s.start)
 
+-- each number of the list is a byte
+abbrev pub AreBytes : List ℕ → Type 0
+AreBytes bytes = All (λ b. b < 256) bytes
+
 -- a segment lies in memory and off both windows, and its bytes lie in it
 pub record IsSegment (s : Seg) : Type 0 where
   pub some : 0 < s.len
   pub below : s.start + s.len ≤ MEMORY_END
   pub bytes_fit : length s.bytes ≤ s.len
+  pub octets : AreBytes s.bytes
   pub off_input : IsOff INPUT_START INPUT_END s
   pub off_output : IsOff OUTPUT_START OUTPUT_END s
 
@@ -87,4 +92,5 @@ pub record IsLoadable (i : Img) : Type 0 where
   pub ascending : AllPairs EndsBefore i.segments
   pub loaded : sum_by (λ s. length s.bytes) i.segments ≤ MOST_LOADED
   pub input : length i.input + 8 ≤ INPUT_LEN
+  pub octets : AreBytes i.input
   pub entry : IsSome (fetch i i.entry)

@@ -4,6 +4,7 @@ ghost use Rattle.rv_model.specs.Image.{IsLoadable};
 
 use crate::INPUT_LEN;
 use crate::code::{Part, parts_of};
+use crate::laws::bytes_law;
 use std::alloc::{AllocError, Global};
 use std::marker::Model;
 
@@ -80,6 +81,7 @@ impl Image {
         requires { length input.items + 8 ≤ INPUT_LEN }
         ensures { result ≡ record self { input = input.items } }
     {
+        bytes_law(&input);
         let mut image = self;
         image.input = input;
         image

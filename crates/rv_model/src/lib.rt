@@ -22,7 +22,7 @@ pub use alignment::{align, width_of};
 pub use answer::{Public, Ran, RunEnd, RunFault, StepAnswer};
 pub use cpu::{Cpu, is_store, operand};
 pub use image::{Image, Segment};
-pub use laws::byte_machine;
+pub use laws::{byte_machine, bytes_law, run_law, values_law, words_law};
 pub use machine::{
     CALL_REGISTER, EXIT_CALL, EXIT_REGISTER, INPUT_END, INPUT_LEN, INPUT_START, MEMORY_END,
     MEMORY_WORDS, MOST_LOADED, OUTPUT_END, OUTPUT_INDEX, OUTPUT_LEN, OUTPUT_START, OUTPUT_WORDS,

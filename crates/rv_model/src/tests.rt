@@ -2,7 +2,8 @@
 ghost use Rattle.std.specs.Prelude.{◌≡◌, ◌%◌, ◌≤◌};
 
 use crate::{
-    Image, PlainCpu, Ran, RunEnd, RunFault, Segment, StepAnswer, align, byte_machine, op, run,
+    Image, PlainCpu, Ran, RunEnd, RunFault, Segment, StepAnswer, align, byte_machine, bytes_law, op,
+    run,
 };
 use rv_word::{Instr, Kind, OpNo};
 use std::alloc::{AllocError, Global};
@@ -27,6 +28,7 @@ fn tiny(alloc: Global, start: u32, words: &[u32]) -> Result<Option<Image>, Alloc
     if bytes.len() < 4 || bytes.len() > 4096 {
         return Ok(None);
     }
+    bytes_law(&bytes);
     let mut segments = Vec::new(alloc);
     segments.push(Segment {
         start,

@@ -1,10 +1,18 @@
 //! What holds of all files and tables.
-ghost use Rattle.std.specs.Prelude.{◌≡◌, ◌<◌, ℕ, List, ◌⊎◌, slice_index};
+ghost use Rattle.std.specs.Prelude.{◌≡◌, ◌<◌, ℕ, List, ◌⊎◌, MatchResult, slice_index};
+ghost use Rattle.gold.specs.Shapes.{HaveShape};
+ghost use Rattle.zk_layout.specs.Air.{machine_shape_of};
 ghost use Rattle.gold.specs.declared.instances.Witness.{Witness};
+ghost use Rattle.gold.specs.declared.shapes.Form.TheVariants.{Two};
 ghost use Rattle.gold.specs.declared.shapes.Shape.{Shape};
 ghost use Rattle.tab_file.specs.declared.fault.TabKind.{TabKind};
 ghost use Rattle.tab_file.specs.declared.fault.TabKind.TheVariants.{NoMemory};
 ghost use Rattle.tab_file.specs.Reading.{TabReads, TabFails};
+
+use crate::{TabErr, read, write};
+use gold::{Form, Witness};
+use std::alloc::Global;
+use zk_layout::machine_shape;
 
 /// Under a shape, bytes either read as tables, or an item of them fails first, and not both. No item
 /// fails for want of memory.
@@ -21,3 +29,14 @@ pub fn one_text()
     ensures witness { (bytes : List ℕ) (shape : Shape) (a b : Witness) → TabReads bytes shape a → TabReads bytes shape b → a ≡ b }
     ensures bytes { (a b : List ℕ) (shape : Shape) (witness : Witness) → TabReads a shape witness → TabReads b shape witness → a ≡ b }
 {}
+
+/// What is written of the machine's tables reads as the tables, unless memory runs out.
+pub fn written_reads(alloc: Global, witness: &Witness) -> Result<Witness, TabErr>
+    requires { HaveShape (machine_shape_of Two) witness.now }
+    ensures { MatchResult result (λ w. w ≡ witness.now) (λ e. e.kind ≡ NoMemory) }
+{
+    let bytes = write(alloc, witness)?;
+    let shape = machine_shape(alloc, Form::Two)?;
+    let again = read(alloc, &bytes, &shape)?;
+    Ok(again)
+}

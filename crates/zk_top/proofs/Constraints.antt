@@ -23,6 +23,7 @@ use Rattle.zk_words.specs.declared.status.Which.TheVariants as files
 use Rattle.zk_words.specs.declared.status.Status.{Status}
 use Rattle.zk_words.specs.declared.status.Status.TheVariants as statuses
 use Rattle.zk_top.specs.Outcome.{Outcome, Contents, refused, shape_of, WithFile, WithText, WithTables, OfLines, OfTables, IsPilOutcome}
+use Rattle.zk_top.specs.Ends.{AreReadOut}
 use Rattle.zk_top.specs.Parts.{Asks, Stops, Comes, IsOnlyText, IsOnlyFault, IsTextRefusal, IsOnlyTables, IsOnlyFailure, IsTablesRefusal}
 use Rattle.zk_top.proofs.Stages.{Begins, begins_exactly, file_begins, front_asked, refused_asks}
 
@@ -135,10 +136,10 @@ module _ (contents : Contents) (pil tables : List ℕ) where
   text_on text ns o only (inr q) = absurd (only.1 q.0 q.1)
 
   -- the refusal that was told is the outcome's
-  pub text_stops : (text : List ℕ) (status : Status) (o : Outcome) (old new : World) → Asks (Opened pil ∷ []) old new → IsTextRefusal text status → OnPil text o → Stops o status old new
-  text_stops text status o old new asks (inl none) h = subst (λ (s : Status). Stops o s old new) (sym none) (front_asked (Opened pil ∷ []) o old new (on_pil_begins text o h) asks)
-  text_stops text status o old new asks (inr told) h = subst (λ (s : Status). Stops o s old new) (sym told.1) (by h)
+  pub text_stops : (text : List ℕ) (status : Status) (o : Outcome) (old new : World) → Asks (Opened pil ∷ []) old new → AreReadOut old new → IsTextRefusal text status → OnPil text o → Stops o status old new
+  text_stops text status o old new asks read (inl none) h = subst (λ (s : Status). Stops o s old new) (sym none) (front_asked (Opened pil ∷ []) o old new (on_pil_begins text o h) asks)
+  text_stops text status o old new asks read (inr told) h = subst (λ (s : Status). Stops o s old new) (sym told.1) (by h)
     where
       by : OnPil text o → Stops o (statuses.BadPil told.0) old new
       by (inl p) = absurd (told.2.0 p.0 p.1)
-      by (inr q) = refused_asks (Opened pil ∷ []) (statuses.BadPil told.0) o old new (q.2 ∙ ap (λ (e : PilErr). refused (Opened pil ∷ []) (statuses.BadPil e)) (told.2.1 q.0 q.1)) asks
+      by (inr q) = refused_asks (Opened pil ∷ []) (statuses.BadPil told.0) o old new (q.2 ∙ ap (λ (e : PilErr). refused (Opened pil ∷ []) (statuses.BadPil e)) (told.2.1 q.0 q.1)) asks (inr read)

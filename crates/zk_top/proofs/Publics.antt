@@ -1,5 +1,5 @@
 -- What the publics of a text name.
-use Rattle.std.proofs.Common.{ℕ, ◌<◌, List, length, sym, subst, All}
+use Rattle.std.proofs.Common.{ℕ, zero, suc, ◌≡◌, ◌<◌, List, [], ◌∷◌, length, get_or, refl, sym, subst, arith, All}
 use Rattle.std.proofs.lemmas.List.Elements.{All-weaker}
 use Rattle.pil_ast.specs.Term.{Line, constant, commit, inter, published, identity, lookup, bus, Namespace, space_at}
 use Rattle.pil_ast.specs.Columns.{Columns, Fits}
@@ -19,6 +19,12 @@ public_in ns c s fits (identity m a b) h = tt
 public_in ns c s fits (lookup a b) h = tt
 public_in ns c s fits (bus ls rs) h = tt
 
--- the publics of a namespace are in range
-pub publics_in : (ns : List Namespace) (c : Columns) (s : ℕ) → IsSound ns → Fits ns c → s < length ns → All (IsPublicIn c) (space_at ns s).items
-publics_in ns c s sound fits l = All-weaker (IsItem ns s) (IsPublicIn c) (public_in ns c s fits) (space_at ns s).items (sound.spaces s l).items
+-- the namespace at a place
+there : (ns : List Namespace) (s : ℕ) (n : Namespace) → s < length ns → space_at ns s ≡ get_or ns s n
+there [] s n l = absurd (omega (arith, l))
+there (m ∷ ms) zero n l = refl
+there (m ∷ ms) (suc s) n l = there ms s n (omega (arith, l))
+
+-- the publics of each namespace are in range
+pub publics_in : (ns : List Namespace) (c : Columns) → IsSound ns → Fits ns c → All (λ n. All (IsPublicIn c) n.items) ns
+publics_in ns c sound fits = λ s n l. subst (λ (m : Namespace). All (IsPublicIn c) m.items) (there ns s n l) (All-weaker (IsItem ns s) (IsPublicIn c) (public_in ns c s fits) (space_at ns s).items (sound.spaces s l).items)

@@ -8,6 +8,7 @@ use Rattle.zk_words.specs.declared.status.Which.TheVariants as files
 use Rattle.zk_words.specs.declared.status.Status.{Status}
 use Rattle.zk_words.specs.declared.status.Status.TheVariants as statuses
 use Rattle.zk_top.specs.Outcome.{Outcome, Contents, refused, of_run, with_input, WithFile, WithImage}
+use Rattle.zk_top.specs.Ends.{AreReadOut}
 use Rattle.zk_top.specs.Parts.{Asks, Stops, IsOnlyImage, IsRefusal}
 use Rattle.zk_top.proofs.Stages.{Begins, begins_exactly, file_begins, front_asked, refused_asks}
 
@@ -49,10 +50,10 @@ module _ (contents : Contents) (elf input : List ℕ) (steps : ℕ) where
   image_on file image o only (inr q) = absurd (only.1 q.0 q.1)
 
   -- the refusal that was told is the outcome's
-  pub refusal_stops : (file : List ℕ) (status : Status) (o : Outcome) (old new : World) → Asks (Opened elf ∷ []) old new → IsRefusal file status → OnFile file o → Stops o status old new
-  refusal_stops file status o old new asks (inl none) h = subst (λ (s : Status). Stops o s old new) (sym none) (front_asked (Opened elf ∷ []) o old new (on_file_begins file o h) asks)
-  refusal_stops file status o old new asks (inr told) h = subst (λ (s : Status). Stops o s old new) (sym told.1) (by h)
+  pub refusal_stops : (file : List ℕ) (status : Status) (o : Outcome) (old new : World) → Asks (Opened elf ∷ []) old new → AreReadOut old new → IsRefusal file status → OnFile file o → Stops o status old new
+  refusal_stops file status o old new asks read (inl none) h = subst (λ (s : Status). Stops o s old new) (sym none) (front_asked (Opened elf ∷ []) o old new (on_file_begins file o h) asks)
+  refusal_stops file status o old new asks read (inr told) h = subst (λ (s : Status). Stops o s old new) (sym told.1) (by h)
     where
       by : OnFile file o → Stops o (statuses.BadElf told.0) old new
       by (inl p) = absurd (told.2.0 p.0 p.1)
-      by (inr q) = refused_asks (Opened elf ∷ []) (statuses.BadElf told.0) o old new (q.2 ∙ ap (λ (e : ElfErr). refused (Opened elf ∷ []) (statuses.BadElf e)) (told.2.1 q.0 q.1)) asks
+      by (inr q) = refused_asks (Opened elf ∷ []) (statuses.BadElf told.0) o old new (q.2 ∙ ap (λ (e : ElfErr). refused (Opened elf ∷ []) (statuses.BadElf e)) (told.2.1 q.0 q.1)) asks (inr read)

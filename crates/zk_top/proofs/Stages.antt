@@ -8,10 +8,11 @@ use Rattle.rv_model.specs.Run.{End, Halted, Faulted, Limited, end_within}
 use Rattle.zk_words.specs.declared.status.Which.{Which}
 use Rattle.zk_words.specs.declared.status.Status.{Status}
 use Rattle.zk_words.specs.declared.status.Status.TheVariants as statuses
+use Rattle.zk_words.specs.Lines.{line_of}
 use Rattle.zk_top.specs.declared.files.FileErr.{FileErr}
 use Rattle.zk_top.specs.declared.files.FileErr.TheVariants as errors
 use Rattle.zk_top.specs.Outcome.{Outcome, Contents, reporting, refused, unanswered, of_run, with_input, WithFile, WithImage, IsRunOutcome}
-use Rattle.zk_top.specs.Ends.{Early, Ends}
+use Rattle.zk_top.specs.Ends.{AreReadOut, AreRead, Early, Ends}
 use Rattle.zk_top.specs.Parts.{Asks, AsksAtMost, IsNotRead, IsDecided, RunLeads, Comes, Stops, Leads, IsOnlyImage, IsOnlyRefusal, IsRefusal, stop_of}
 
 -- nothing was asked for
@@ -26,14 +27,29 @@ asks_both xs ys old mid new first second = record {
   contents = second.contents ∙ first.contents;
 }
 
+-- files after files
+pub read_both : (old mid new : World) → AreReadOut old mid → AreReadOut mid new → AreReadOut old new
+read_both old mid new first second = λ slot. join slot (first slot) (second slot)
+  where
+    join : (slot : ℕ) → (mid.left slot ≡ old.left slot) ⊎ (mid.left slot ≡ []) → (new.left slot ≡ mid.left slot) ⊎ (new.left slot ≡ []) → (new.left slot ≡ old.left slot) ⊎ (new.left slot ≡ [])
+    join slot before (inr out) = inr out
+    join slot (inl kept) (inl same) = inl (same ∙ kept)
+    join slot (inr out) (inl same) = inr (same ∙ out)
+
+-- a report reads nothing
+read_then : (status : Option Status) (start now after : World) → after.left ≡ now.left → AreRead status start now → AreRead status start after
+read_then status start now after same (inl large) = inl large
+read_then status start now after same (inr out) = inr (read_both start now after out (λ slot. inl (ap (λ (left : ℕ → List ℕ). left slot) same)))
+
 -- a front of the report was written behind the names
-pub early_report : (names : List Asked) (status : Status) (text : List ℕ) (start now after : World) → Asks names start now → HasReportedFront now after text → Early (reporting names status text) start after
-early_report names status text start now after asks front = record {
+pub early_report : (names : List Asked) (status : Status) (text : List ℕ) (start now after : World) → Asks names start now → AreRead (Some status) start now → HasReportedFront now after text → Early (reporting names status text) start after
+early_report names status text start now after asks read front = record {
   names = length names;
   asked = ap (λ (w : World). w.asked) front.after ∙ asks.asked ∙ ap (λ (ns : List Asked). start.asked ++ ns) (sym (take-length names));
   bytes = front.count;
   reported = ap (λ (w : World). w.reported) front.after ∙ ap (λ (bs : List ℕ). bs ++ take front.count text) asks.reported;
   quiet = λ fewer. absurd (omega (arith, fewer));
+  read = inr (read_then (Some status) start now after (ap (λ (w : World). w.left) front.after) read);
   contents = ap (λ (w : World). w.contents) front.after ∙ asks.contents;
 }
 
@@ -45,6 +61,7 @@ early_front o start now front = record {
   bytes = 0;
   reported = front.asks.reported ∙ sym (append-nil start.reported);
   quiet = λ fewer. refl;
+  read = inl refl;
   contents = front.asks.contents;
 }
 
@@ -113,15 +130,15 @@ file_refused names x limit which On o bytes e exceeds h =
     let no : nat_le (length bytes) limit ≡ false = grind arith in
     subst (λ (b : Bool). MatchBool b (On bytes o) (o ≡ refused names (statuses.TooLarge which))) no h'
 
-pub refused_asks : (names : List Asked) (status : Status) (o : Outcome) (old new : World) → o ≡ refused names status → Asks names old new → Asks o.names old new × (o ≡ refused o.names status)
-refused_asks names status o old new e asks =
+pub refused_asks : (names : List Asked) (status : Status) (o : Outcome) (old new : World) → o ≡ refused names status → Asks names old new → AreRead (Some status) old new → Asks o.names old new × (o ≡ refused o.names status) × AreRead (Some status) old new
+refused_asks names status o old new e asks read =
     let same : o.names ≡ names = ap (λ (p : Outcome). p.names) e in
-    (subst (λ (ns : List Asked). Asks ns old new) (sym same) asks, e ∙ ap (λ (ns : List Asked). refused ns status) (sym same))
+    (subst (λ (ns : List Asked). Asks ns old new) (sym same) asks, e ∙ ap (λ (ns : List Asked). refused ns status) (sym same), read)
 
 -- a file that isn't read stops the command
 pub stopped : (front : List Asked) (n : Asked) (x : Option (List ℕ)) (limit : ℕ) (which : Which) (On : List ℕ → Outcome → Type 0) (o : Outcome) (e : FileErr) (old mid new : World) → Asks front old mid → IsNotRead n x limit e mid new → Begins (front ++ n ∷ []) o → WithFile (front ++ n ∷ []) x limit which On o → Stops o (stop_of e which) old new
 stopped front n x limit which On o errors.TooLarge old mid new first large begins h =
-    refused_asks (front ++ n ∷ []) (statuses.TooLarge which) o old new (file_refused (front ++ n ∷ []) x limit which On o large.bytes large.found large.exceeds h) (asks_both front (n ∷ []) old mid new first large.asks)
+    refused_asks (front ++ n ∷ []) (statuses.TooLarge which) o old new (file_refused (front ++ n ∷ []) x limit which On o large.bytes large.found large.exceeds h) (asks_both front (n ∷ []) old mid new first large.asks) (inl (which, refl))
 stopped front n x limit which On o errors.HostFault old mid new first more begins h = front_of_name front n o old mid new begins first more
 stopped front n x limit which On o errors.NoMemory old mid new first more begins h = front_of_name front n o old mid new begins first more
 
@@ -139,7 +156,7 @@ stops_early o (statuses.RunFault f) start now s = early_front o start now (front
 stops_early o (statuses.StepLimit n) start now s = early_front o start now (front_asked o.names o start now (begins_exactly o.names o refl) s.0)
 stops_early o (statuses.TooLarge w) start now s = early_front o start now (front_asked o.names o start now (begins_exactly o.names o refl) s.0)
 
-pub stops_decided : (o : Outcome) (status : Status) (start now : World) → IsDecided status → Stops o status start now → Asks o.names start now × (o ≡ refused o.names status)
+pub stops_decided : (o : Outcome) (status : Status) (start now : World) → IsDecided status → Stops o status start now → Asks o.names start now × (o ≡ refused o.names status) × AreRead (Some status) start now
 stops_decided o statuses.HostFault start now d s = absurd d
 stops_decided o statuses.NoMemory start now d s = absurd d
 stops_decided o statuses.Done start now d s = s
@@ -152,41 +169,48 @@ stops_decided o (statuses.RunFault f) start now d s = s
 stops_decided o (statuses.StepLimit n) start now d s = s
 stops_decided o (statuses.TooLarge w) start now d s = s
 
+-- what reports a decided refusal by its line ends so
+pub refused_ends : (o : Outcome) (status result : Status) (line : List ℕ) (start now after : World) → IsDecided status → line ≡ line_of status → Stops o status start now → ((names : List Asked) → Asks names start now → AreRead (Some status) start now → Ends (reporting names status line) result start after) → Ends o result start after
+refused_ends o status result line start now after decided text stops ends =
+    let stopped_so = stops_decided o status start now decided stops in
+    let same : reporting o.names status line ≡ o = ap (reporting o.names status) text ∙ sym stopped_so.1 in
+    subst (λ (p : Outcome). Ends p result start after) same (ends o.names stopped_so.0 stopped_so.2)
+
 -- the run of an image, read against its outcome
-pub run_leads : (names : List Asked) (image : Img) (steps : ℕ) (o : Outcome) (result : Result (Vec ℕ Global) Status) (old new : World) → Asks names old new → o ≡ of_run names steps (end_within image steps) → RunLeads image steps result → Leads o result old new
-run_leads names image steps o (Ok text) old new asks e leads =
+pub run_leads : (names : List Asked) (image : Img) (steps : ℕ) (o : Outcome) (result : Result (Vec ℕ Global) Status) (old new : World) → Asks names old new → AreReadOut old new → o ≡ of_run names steps (end_within image steps) → RunLeads image steps result → Leads o result old new
+run_leads names image steps o (Ok text) old new asks read e leads =
     let is : o ≡ reporting names statuses.Done text.items = e ∙ leads names in
     let same : o.names ≡ names = ap (λ (p : Outcome). p.names) is in
-    (subst (λ (ns : List Asked). Asks ns old new) (sym same) asks, is ∙ ap (λ (ns : List Asked). reporting ns statuses.Done text.items) (sym same))
-run_leads names image steps o (Err statuses.HostFault) old new asks e leads = absurd leads
-run_leads names image steps o (Err statuses.NoMemory) old new asks e leads = front_asked names o old new (begins_exactly names o (ap (λ (p : Outcome). p.names) e ∙ run_names names steps (end_within image steps))) asks
+    (subst (λ (ns : List Asked). Asks ns old new) (sym same) asks, is ∙ ap (λ (ns : List Asked). reporting ns statuses.Done text.items) (sym same), inr read)
+run_leads names image steps o (Err statuses.HostFault) old new asks read e leads = absurd leads
+run_leads names image steps o (Err statuses.NoMemory) old new asks read e leads = front_asked names o old new (begins_exactly names o (ap (λ (p : Outcome). p.names) e ∙ run_names names steps (end_within image steps))) asks
   where
     run_names : (ns : List Asked) (limit : ℕ) (end : End) → (of_run ns limit end).names ≡ ns
     run_names ns limit (Halted n public) = refl
     run_names ns limit (Faulted fault) = refl
     run_names ns limit Limited = refl
-run_leads names image steps o (Err statuses.Done) old new asks e leads = refused_asks names statuses.Done o old new (e ∙ leads names) asks
-run_leads names image steps o (Err (statuses.Broken b)) old new asks e leads = refused_asks names (statuses.Broken b) o old new (e ∙ leads names) asks
-run_leads names image steps o (Err (statuses.BadTables f)) old new asks e leads = refused_asks names (statuses.BadTables f) o old new (e ∙ leads names) asks
-run_leads names image steps o (Err (statuses.BadPil f)) old new asks e leads = refused_asks names (statuses.BadPil f) o old new (e ∙ leads names) asks
-run_leads names image steps o (Err statuses.BadWords) old new asks e leads = refused_asks names statuses.BadWords o old new (e ∙ leads names) asks
-run_leads names image steps o (Err (statuses.BadElf f)) old new asks e leads = refused_asks names (statuses.BadElf f) o old new (e ∙ leads names) asks
-run_leads names image steps o (Err (statuses.RunFault f)) old new asks e leads = refused_asks names (statuses.RunFault f) o old new (e ∙ leads names) asks
-run_leads names image steps o (Err (statuses.StepLimit n)) old new asks e leads = refused_asks names (statuses.StepLimit n) o old new (e ∙ leads names) asks
-run_leads names image steps o (Err (statuses.TooLarge w)) old new asks e leads = refused_asks names (statuses.TooLarge w) o old new (e ∙ leads names) asks
+run_leads names image steps o (Err statuses.Done) old new asks read e leads = refused_asks names statuses.Done o old new (e ∙ leads names) asks (inr read)
+run_leads names image steps o (Err (statuses.Broken b)) old new asks read e leads = refused_asks names (statuses.Broken b) o old new (e ∙ leads names) asks (inr read)
+run_leads names image steps o (Err (statuses.BadTables f)) old new asks read e leads = refused_asks names (statuses.BadTables f) o old new (e ∙ leads names) asks (inr read)
+run_leads names image steps o (Err (statuses.BadPil f)) old new asks read e leads = refused_asks names (statuses.BadPil f) o old new (e ∙ leads names) asks (inr read)
+run_leads names image steps o (Err statuses.BadWords) old new asks read e leads = refused_asks names statuses.BadWords o old new (e ∙ leads names) asks (inr read)
+run_leads names image steps o (Err (statuses.BadElf f)) old new asks read e leads = refused_asks names (statuses.BadElf f) o old new (e ∙ leads names) asks (inr read)
+run_leads names image steps o (Err (statuses.RunFault f)) old new asks read e leads = refused_asks names (statuses.RunFault f) o old new (e ∙ leads names) asks (inr read)
+run_leads names image steps o (Err (statuses.StepLimit n)) old new asks read e leads = refused_asks names (statuses.StepLimit n) o old new (e ∙ leads names) asks (inr read)
+run_leads names image steps o (Err (statuses.TooLarge w)) old new asks read e leads = refused_asks names (statuses.TooLarge w) o old new (e ∙ leads names) asks (inr read)
 
 -- a stage whose outcomes have these names, read against its outcome
-pub stage_leads : (names : List Asked) (On : List Asked → Outcome → Type 0) (o : Outcome) (result : Result (Vec ℕ Global) Status) (old new : World) → Asks names old new → o.names ≡ names → On names o → Comes On result → Leads o result old new
-stage_leads names On o (Ok text) old new asks same on comes =
-    (subst (λ (ns : List Asked). Asks ns old new) (sym same) asks, comes names o on ∙ ap (λ (ns : List Asked). reporting ns statuses.Done text.items) (sym same))
-stage_leads names On o (Err statuses.HostFault) old new asks same on comes = absurd comes
-stage_leads names On o (Err statuses.NoMemory) old new asks same on comes = front_asked names o old new (begins_exactly names o same) asks
-stage_leads names On o (Err statuses.Done) old new asks same on comes = refused_asks names statuses.Done o old new (comes names o on) asks
-stage_leads names On o (Err (statuses.Broken b)) old new asks same on comes = refused_asks names (statuses.Broken b) o old new (comes names o on) asks
-stage_leads names On o (Err statuses.BadWords) old new asks same on comes = refused_asks names statuses.BadWords o old new (comes names o on) asks
-stage_leads names On o (Err (statuses.BadElf f)) old new asks same on comes = refused_asks names (statuses.BadElf f) o old new (comes names o on) asks
-stage_leads names On o (Err (statuses.RunFault f)) old new asks same on comes = refused_asks names (statuses.RunFault f) o old new (comes names o on) asks
-stage_leads names On o (Err (statuses.StepLimit n)) old new asks same on comes = refused_asks names (statuses.StepLimit n) o old new (comes names o on) asks
-stage_leads names On o (Err (statuses.BadTables e)) old new asks same on comes = refused_asks names (statuses.BadTables e) o old new (comes names o on) asks
-stage_leads names On o (Err (statuses.BadPil e)) old new asks same on comes = refused_asks names (statuses.BadPil e) o old new (comes names o on) asks
-stage_leads names On o (Err (statuses.TooLarge w)) old new asks same on comes = refused_asks names (statuses.TooLarge w) o old new (comes names o on) asks
+pub stage_leads : (names : List Asked) (On : List Asked → Outcome → Type 0) (o : Outcome) (result : Result (Vec ℕ Global) Status) (old new : World) → Asks names old new → AreReadOut old new → o.names ≡ names → On names o → Comes On result → Leads o result old new
+stage_leads names On o (Ok text) old new asks read same on comes =
+    (subst (λ (ns : List Asked). Asks ns old new) (sym same) asks, comes names o on ∙ ap (λ (ns : List Asked). reporting ns statuses.Done text.items) (sym same), inr read)
+stage_leads names On o (Err statuses.HostFault) old new asks read same on comes = absurd comes
+stage_leads names On o (Err statuses.NoMemory) old new asks read same on comes = front_asked names o old new (begins_exactly names o same) asks
+stage_leads names On o (Err statuses.Done) old new asks read same on comes = refused_asks names statuses.Done o old new (comes names o on) asks (inr read)
+stage_leads names On o (Err (statuses.Broken b)) old new asks read same on comes = refused_asks names (statuses.Broken b) o old new (comes names o on) asks (inr read)
+stage_leads names On o (Err statuses.BadWords) old new asks read same on comes = refused_asks names statuses.BadWords o old new (comes names o on) asks (inr read)
+stage_leads names On o (Err (statuses.BadElf f)) old new asks read same on comes = refused_asks names (statuses.BadElf f) o old new (comes names o on) asks (inr read)
+stage_leads names On o (Err (statuses.RunFault f)) old new asks read same on comes = refused_asks names (statuses.RunFault f) o old new (comes names o on) asks (inr read)
+stage_leads names On o (Err (statuses.StepLimit n)) old new asks read same on comes = refused_asks names (statuses.StepLimit n) o old new (comes names o on) asks (inr read)
+stage_leads names On o (Err (statuses.BadTables e)) old new asks read same on comes = refused_asks names (statuses.BadTables e) o old new (comes names o on) asks (inr read)
+stage_leads names On o (Err (statuses.BadPil e)) old new asks read same on comes = refused_asks names (statuses.BadPil e) o old new (comes names o on) asks (inr read)
+stage_leads names On o (Err (statuses.TooLarge w)) old new asks read same on comes = refused_asks names (statuses.TooLarge w) o old new (comes names o on) asks (inr read)

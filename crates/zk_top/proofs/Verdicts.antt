@@ -25,7 +25,7 @@ module _ (verdict : (ns : List Namespace) (c : Columns) → AllHold ns c ⊎ ((b
   some_lines names ns c (inl all) = (reporting names statuses.Done (pil_report ns c), inl (all, refl))
   some_lines names ns c (inr first) = (refused names (statuses.Broken first.0), inr (first.0, first.1, refl))
 
-  some_tables : (names : List Asked) (ns : List Namespace) (file : List ℕ) → ((witness : Witness) × TabReads file (shape_of ns) tables) ⊎ ((kind : TabKind) × (at : ℕ) × TabFails file (shape_of ns) kind at) → (o : Outcome) × OfTables names ns file o
+  some_tables : (names : List Asked) (ns : List Namespace) (file : List ℕ) → ((witness : Witness) × TabReads file (shape_of ns) witness) ⊎ ((kind : TabKind) × (at : ℕ) × TabFails file (shape_of ns) kind at) → (o : Outcome) × OfTables names ns file o
   some_tables names ns file (inl reads) =
       let values = values_of (shape_of ns) reads.0 in
       let rest = some_lines names ns values (verdict ns values) in

@@ -21,6 +21,7 @@ use Rattle.zk_words.specs.declared.status.Status.TheVariants as statuses
 use Rattle.zk_top.specs.declared.files.FileErr.{FileErr}
 use Rattle.zk_top.specs.declared.files.FileErr.TheVariants as errors
 use Rattle.zk_top.specs.Outcome.{Outcome, reporting, refused, of_run}
+use Rattle.zk_top.specs.Ends.{AreReadOut, AreRead}
 
 -- these names were asked for, and nothing else happened that an outcome speaks of
 pub record Asks (names : List Asked) (old new : World) : Type 0 where
@@ -38,6 +39,7 @@ pub record IsRead (name : Asked) (behind : Option (List ℕ)) (limit : ℕ) (byt
   pub found : behind ≡ Some bytes
   pub fits : length bytes ≤ limit
   pub asks : Asks (name ∷ []) old new
+  pub read : AreReadOut old new
 
 -- it was asked for, and has more bytes
 pub record IsTooLarge (name : Asked) (behind : Option (List ℕ)) (limit : ℕ) (old new : World) : Type 0 where
@@ -123,13 +125,13 @@ Comes On (Err statuses.NoMemory) = Unit {0}
 Comes On (Err statuses.HostFault) = ⊥
 Comes On (Err status) = (names : List Asked) (o : Outcome) → On names o → o ≡ refused names status
 
--- a command stopped before its report: what it asked for, against its outcome
+-- a command stopped before its report: what it asked for and read, against its outcome
 abbrev pub Stops : Outcome → Status → World → World → Type 0
 Stops o statuses.HostFault old new = AsksAtMost o.names old new
 Stops o statuses.NoMemory old new = AsksAtMost o.names old new
-Stops o status old new = Asks o.names old new × (o ≡ refused o.names status)
+Stops o status old new = Asks o.names old new × (o ≡ refused o.names status) × AreRead (Some status) old new
 
 -- the work before the report led to its text, or stopped
 abbrev pub Leads : Outcome → Result (Vec ℕ Global) Status → World → World → Type 0
-Leads o (Ok text) old new = Asks o.names old new × (o ≡ reporting o.names statuses.Done text.items)
+Leads o (Ok text) old new = Asks o.names old new × (o ≡ reporting o.names statuses.Done text.items) × AreRead (Some statuses.Done) old new
 Leads o (Err status) old new = Stops o status old new

@@ -1,9 +1,9 @@
 //! The last part of a command: its report.
-ghost use Rattle.std.specs.Prelude.{◌≡◌, ◌≤◌, ◌⊎◌, List};
+ghost use Rattle.std.specs.Prelude.{◌≡◌, ◌≤◌, ◌⊎◌, List, Some};
 ghost use Rattle.host_io.specs.World.{World, Asked};
 ghost use Rattle.host_io.specs.Calls.{HasRisen};
 ghost use Rattle.zk_top.specs.Outcome.{Outcome, reporting};
-ghost use Rattle.zk_top.specs.Ends.{Ends};
+ghost use Rattle.zk_top.specs.Ends.{AreRead, Ends};
 ghost use Rattle.zk_top.specs.Parts.{Asks, IsDecided, IsOrEarly, Stops};
 
 use host_io::{Host, WriteErr, report_all};
@@ -14,7 +14,7 @@ use zk_words::{Status, status_line};
 pub fn finish<H: Host>(host: &mut H, status: Status, text: &[u8]) -> Status
     requires { IsDecided status }
     ensures told { H.tells host.old → H.tells host.new }
-    ensures ends { H.tells host.old → (start : World) (names : List Asked) → Asks names start (H.world host.old) → Ends (reporting names status text.now) result start (H.world host.new) }
+    ensures ends { H.tells host.old → (start : World) (names : List Asked) → Asks names start (H.world host.old) → AreRead (Some status) start (H.world host.old) → Ends (reporting names status text.now) result start (H.world host.new) }
     ensures status { IsOrEarly status result }
     ensures later { H.faults host.old ≤ H.faults host.new }
     ensures fault { result ≡ Status.HostFault → HasRisen (H.faults host.old) (H.faults host.new) }

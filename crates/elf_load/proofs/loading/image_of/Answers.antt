@@ -1,5 +1,7 @@
-use Rattle.std.proofs.Common.{sym, subst}
+use Rattle.std.proofs.Common.{◌<◌, sym, subst, arith}
+use Rattle.std.proofs.lemmas.List.Elements.{All-from_get_or}
 use Rattle.std.proofs.lemmas.Result.{IfOk-weaker}
+use Rattle.rv_model.specs.Image.{AreBytes}
 use Rattle.elf_load.specs.Loads.{Loads}
 use Rattle.elf_load.proofs.Order.{passes_all}
 use Rattle.elf_load.proofs.Placing.{all_placed, loadable, loads}
@@ -11,8 +13,10 @@ segments_of-requires c = all_placed c.args.file.now c.args.headers.now (passes_a
 pub new-requires : goal.new-requires
 new-requires c =
     let file = c.args.file.now in
+    let octets : AreBytes file = All-from_get_or (λ b. b < 256) file 0 (λ i below. omega (arith, c.type_inv.file i)) in
+    let given : AreBytes c.args.input.now = All-from_get_or (λ b. b < 256) c.args.input.now 0 (λ i below. omega (arith, c.type_inv.input i)) in
     rw (c.u64_at.ensures, c.in_ok-segments.ensures, c.in_ok-input.ensures.items)
-    (loadable file c.args.input.now c.args.headers.now (passes_all file c.requires.passed) c.requires.ascends c.requires.fits)
+    (loadable file c.args.input.now c.args.headers.now octets given (passes_all file c.requires.passed) c.requires.ascends c.requires.fits)
 
 pub returns : goal.returns
 returns c =

@@ -1,5 +1,6 @@
-use Rattle.std.proofs.Common.{rules, ◌≡◌, ◌==◌, ◌%◌, ◌≤◌, ◌^◌, ◌++◌, zero, suc, true, [], ◌∷◌, length, All, refl, ap, ◌∙◌, inl, arith}
+use Rattle.std.proofs.Common.{rules, ◌≡◌, ◌==◌, ◌%◌, ◌<◌, ◌≤◌, ◌^◌, ◌++◌, zero, suc, true, [], ◌∷◌, length, All, refl, ap, ◌∙◌, inl, arith}
 use Rattle.std.proofs.lemmas.Grind.{common_steps}
+use Rattle.std.proofs.lemmas.List.Elements.{All-nil}
 use Rattle.std.proofs.lemmas.Bool.{eq-eqb}
 use Rattle.std.proofs.lemmas.Bool.Decides.{nat_tests}
 use Rattle.rv_model.specs.Image.{Seg, IsSegment, IsLoadable, runs_at, fetch}
@@ -20,13 +21,14 @@ one_segment s is exec multiple room few =
       ascending = λ i j d less below. absurd (omega arith);
       loaded = omega arith;
       input = omega arith;
+      octets = All-nil (λ b. b < 256);
       entry = rw (aligned, runs) (search rules);
     }
 
 pub new-requires : goal.new-requires
 new-requires c =
-    let s : Seg = record { start = 0; len = 4; exec = true; bytes = c.in_ok-to_vec.field-0.items } in
+    let s : Seg = record { start = 0; len = 4; exec = true; bytes = c.in_ok-bytes.bytes.items } in
     let long : length s.bytes ≡ 4 = grind (arith, common_steps) in
-    let is : IsSegment s = record { some = omega arith; below = omega arith; bytes_fit = omega arith; off_input = inl (omega arith); off_output = inl (omega arith) } in
+    let is : IsSegment s = record { some = omega arith; below = omega arith; bytes_fit = omega arith; octets = rw c.deref.ensures.value at c.bytes_law.ensures; off_input = inl (omega arith); off_output = inl (omega arith) } in
     let items : c.push.new.self.items ≡ s ∷ [] = c.in_ok-push.ensures.items ∙ ap (λ xs. xs ++ s ∷ []) c.new-segments.ensures.items in
     rw (items, c.new-input.ensures.items) (one_segment s is refl refl (omega arith) (omega arith))

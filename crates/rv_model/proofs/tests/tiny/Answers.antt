@@ -1,5 +1,6 @@
-use Rattle.std.proofs.Common.{rules, ◌≡◌, ◌==◌, ◌%◌, ◌≤◌, ◌^◌, ◌++◌, zero, suc, true, [], ◌∷◌, length, All, refl, ap, ◌∙◌, inl, arith}
+use Rattle.std.proofs.Common.{rules, ◌≡◌, ◌==◌, ◌%◌, ◌<◌, ◌≤◌, ◌^◌, ◌++◌, zero, suc, true, [], ◌∷◌, length, All, refl, ap, ◌∙◌, inl, arith}
 use Rattle.std.proofs.lemmas.Grind.{common_steps}
+use Rattle.std.proofs.lemmas.List.Elements.{All-nil}
 use Rattle.std.proofs.lemmas.Bool.{eq-eqb}
 use Rattle.std.proofs.lemmas.Bool.Decides.{nat_tests}
 use Rattle.rv_model.specs.Image.{Seg, IsSegment, IsLoadable, runs_at, fetch}
@@ -20,8 +21,17 @@ one_segment s is exec multiple room few =
       ascending = λ i j d less below. absurd (omega arith);
       loaded = omega arith;
       input = omega arith;
+      octets = All-nil (λ b. b < 256);
       entry = rw (aligned, runs) (search rules);
     }
+
+pub invariant_of-push : goal.invariant_of-push
+invariant_of-push c =
+    let fit : length c.loop-word.bytes.items ≤ c.len-2.result = grind (arith, common_steps) in
+    let some : 4 ≤ c.len-2.result = grind (arith, common_steps) in
+    let few : c.len-2.result ≤ 4096 = grind (arith, common_steps) in
+    let start : c.args.start ≤ 0x1_0078 = c.requires.low in
+    record { some = omega arith; below = omega arith; bytes_fit = fit; octets = rw c.deref.ensures.value at c.bytes_law.ensures; off_input = inl (omega arith); off_output = inl (omega arith) }
 
 pub new-requires-2 : goal.new-requires-2
 new-requires-2 c =
@@ -30,6 +40,6 @@ new-requires-2 c =
     let some : 4 ≤ c.len-2.result = grind (arith, common_steps) in
     let few : c.len-2.result ≤ 4096 = grind (arith, common_steps) in
     let start : s.start ≤ 0x1_0078 = c.requires.low in
-    let is : IsSegment s = record { some = omega arith; below = omega arith; bytes_fit = fit; off_input = inl (omega arith); off_output = inl (omega arith) } in
+    let is : IsSegment s = record { some = omega arith; below = omega arith; bytes_fit = fit; octets = rw c.deref.ensures.value at c.bytes_law.ensures; off_input = inl (omega arith); off_output = inl (omega arith) } in
     let items : c.push.new.self.items ≡ s ∷ [] = c.in_ok-push.ensures.items ∙ ap (λ xs. xs ++ s ∷ []) c.new-segments.ensures.items in
     rw (c.from.ensures, items, c.new.ensures.items) (one_segment s is refl c.requires.multiple some (omega arith))

@@ -5,7 +5,7 @@ use Rattle.zk_words.specs.declared.status.Which.TheVariants as files
 use Rattle.zk_words.specs.declared.status.Status.{Status}
 use Rattle.zk_top.specs.Outcome.{Contents, IsPilOutcome, OfTables}
 use Rattle.zk_top.specs.Parts.{Stops, IsNotRead, IsOnlyText, IsTextRefusal}
-use Rattle.zk_top.proofs.Stages.{stopped, asks_nothing, asks_both, file_on, stage_leads}
+use Rattle.zk_top.proofs.Stages.{stopped, asks_nothing, asks_both, read_both, file_on, stage_leads}
 use Rattle.zk_top.proofs.Constraints.{pair, OnPil, pil_begins, text_begins, text_on, text_stops, tables_names}
 use Rattle.zk_top.proofs.checking.work.Goals as goal
 
@@ -26,7 +26,7 @@ returns-in-Err-constraints_of-clause-leads g c = λ told o is.
     let read = c.in-Ok.ensures.read told in
     let on = file_on (Opened c.args.pil.now ∷ []) (old.contents c.args.pil.now) (2 ^ 20) files.Pil (OnPil old.contents c.args.pil.now c.args.tables.now) o c.in-Ok.text.items read.found read.fits is in
     let refusal : IsTextRefusal c.in-Ok.text.items c.in-Err-constraints_of.status = subst (λ (text : List ℕ). IsTextRefusal text c.in-Err-constraints_of.status) c.deref.ensures.value c.in-Err-constraints_of.ensures.refused in
-    text_stops old.contents c.args.pil.now c.args.tables.now c.in-Ok.text.items c.in-Err-constraints_of.status o old new read.asks refusal on
+    text_stops old.contents c.args.pil.now c.args.tables.now c.in-Ok.text.items c.in-Err-constraints_of.status o old new read.asks read.read refusal on
 
 pub returns-in-Ok-file_of-clause-leads : goal.returns-in-Ok-file_of-clause-leads
 unfolding IsPilOutcome
@@ -45,7 +45,7 @@ returns-in-Ok-file_of-clause-leads g c = λ told o is.
     let found : old.contents c.args.tables.now ≡ Some file = sym (ap (λ (contents : Contents). contents c.args.tables.now) read.asks.contents) ∙ read_tables.found in
     let on_file = file_on both (old.contents c.args.tables.now) (2 ^ 48) files.Tables (OfTables both ns) o file found read_tables.fits on_text in
     stage_leads both (λ names. OfTables names ns file) o c.report_of_tables.result old new
-    (asks_both (Opened c.args.pil.now ∷ []) (Opened c.args.tables.now ∷ []) old mid new read.asks read_tables.asks) (tables_names both ns file o on_file) on_file c.report_of_tables.ensures.comes
+    (asks_both (Opened c.args.pil.now ∷ []) (Opened c.args.tables.now ∷ []) old mid new read.asks read_tables.asks) (read_both old mid new read.read read_tables.read) (tables_names both ns file o on_file) on_file c.report_of_tables.ensures.comes
 
 pub returns-clause-leads : goal.returns-clause-leads
 unfolding IsPilOutcome

@@ -5,7 +5,7 @@ use Rattle.zk_words.specs.declared.status.Which.TheVariants as files
 use Rattle.zk_words.specs.declared.status.Status.{Status}
 use Rattle.zk_top.specs.Outcome.{Contents, IsRunOutcome, with_input}
 use Rattle.zk_top.specs.Parts.{Stops, IsNotRead, IsOnlyImage, IsRefusal, RunLeads}
-use Rattle.zk_top.proofs.Stages.{stopped, asks_nothing, asks_both, file_on, run_leads}
+use Rattle.zk_top.proofs.Stages.{stopped, asks_nothing, asks_both, read_both, file_on, run_leads}
 use Rattle.zk_top.proofs.Runs.{both, OnBytes, OnFile, run_begins, image_begins, image_on, refusal_stops}
 use Rattle.zk_top.proofs.running.work.Goals as goal
 
@@ -26,7 +26,7 @@ returns-in-Err-image_of-clause-leads g c = λ told o is.
     let read = c.in-Ok.ensures.read told in
     let on = file_on (Opened c.args.elf.now ∷ []) (old.contents c.args.elf.now) (2 ^ 26) files.Elf (OnFile old.contents c.args.elf.now c.args.input.now c.args.steps) o c.in-Ok.file.items read.found read.fits is in
     let refusal : IsRefusal c.in-Ok.file.items c.in-Err-image_of.status = subst (λ (file : List ℕ). IsRefusal file c.in-Err-image_of.status) c.deref.ensures.value c.in-Err-image_of.ensures.refused in
-    refusal_stops old.contents c.args.elf.now c.args.input.now c.args.steps c.in-Ok.file.items c.in-Err-image_of.status o old new read.asks refusal on
+    refusal_stops old.contents c.args.elf.now c.args.input.now c.args.steps c.in-Ok.file.items c.in-Err-image_of.status o old new read.asks read.read refusal on
 
 pub returns-in-Ok-file_of-clause-leads : goal.returns-in-Ok-file_of-clause-leads
 unfolding IsRunOutcome
@@ -45,7 +45,7 @@ returns-in-Ok-file_of-clause-leads g c = λ told o is.
     let found : old.contents c.args.input.now ≡ Some bytes = sym (ap (λ (contents : Contents). contents c.args.input.now) read.asks.contents) ∙ read_input.found in
     let ran = file_on (both old.contents c.args.elf.now c.args.input.now c.args.steps) (old.contents c.args.input.now) (2 ^ 24 - 8) files.Input (OnBytes old.contents c.args.elf.now c.args.input.now c.args.steps image) o bytes found read_input.fits on_image in
     let leads : RunLeads (with_input image bytes) c.args.steps result = subst (λ (i : Img). RunLeads i c.args.steps result) c.with_input.ensures c.report_of_run.ensures.leads in
-    run_leads (both old.contents c.args.elf.now c.args.input.now c.args.steps) (with_input image bytes) c.args.steps o result old new (asks_both (Opened c.args.elf.now ∷ []) (Opened c.args.input.now ∷ []) old mid new read.asks read_input.asks) ran leads
+    run_leads (both old.contents c.args.elf.now c.args.input.now c.args.steps) (with_input image bytes) c.args.steps o result old new (asks_both (Opened c.args.elf.now ∷ []) (Opened c.args.input.now ∷ []) old mid new read.asks read_input.asks) (read_both old mid new read.read read_input.read) ran leads
 
 pub returns-clause-leads : goal.returns-clause-leads
 unfolding IsRunOutcome

@@ -9,6 +9,7 @@ invariant_of-image c = record {
     ascending = c.image.invariant.loadable.ascending;
     loaded = c.image.invariant.loadable.loaded;
     input = c.requires;
+    octets = rw c.deref.ensures.value at c.bytes_law.ensures;
     entry = c.image.invariant.loadable.entry;
   };
   decoded = c.image.invariant.decoded;

@@ -1,0 +1,27 @@
+-- LWU at each offset.
+use Rattle.std.proofs.Common.{ℕ, zero, suc, ◌<◌, refl, lit<, arith}
+use Rattle.rv_word.specs.declared.instr.Kind.TheVariants as kinds
+use Rattle.rv_word.specs.Numbers.{kind_number}
+use Rattle.pil_ast.specs.Term.{item_at}
+use Rattle.pil_ast.specs.Value.{Cells}
+use Rattle.pil_exact.proofs.Row.{line, amount}
+use Rattle.machine_text.specs.Align.{items, kind, off, mlo, mhi}
+use Rattle.air_align.proofs.Known.{bound}
+use Rattle.air_align.proofs.Bytes.{four, whole, part_4, limbs_low}
+use Rattle.air_align.proofs.Rows.{Op, row, lwu_is, old_bytes, IsTuple, access_of, one_is_not_zero}
+
+module _ (x : Cells) where
+  abbrev f : ℕ → ℕ
+  f = x.column 0 9
+
+  pub lwu : (j : ℕ) → j < 8 → (o : Op x 6 j) → IsTuple x o.selected
+  unfolding kind_number
+  lwu zero l o = let r = row x 6 0 o in let s = o.selected in access_of x s kinds.Lwu 0 (amount r kind refl) (amount r off refl) l refl (limbs_low _ _ _ (four (f 20) (f 21) (f 22) (f 23)) (amount r mlo refl) (amount r mhi refl) (lwu_is 0 (whole f 20) (whole f 28) _ (part_4 (f 20) (f 21) (f 22) (f 23) (f 24) (f 25) (f 26) (f 27) (old_bytes x s) 0 (lit< tt))) (omega (arith, (bound x s 20), (bound x s 21), (bound x s 22), (bound x s 23))))
+  lwu (suc zero) l o = absurd (one_is_not_zero (line (row x 6 1 o) (item_at items 51) (o.selected.meets 51) refl))
+  lwu (suc (suc zero)) l o = absurd (one_is_not_zero (line (row x 6 2 o) (item_at items 51) (o.selected.meets 51) refl))
+  lwu (suc (suc (suc zero))) l o = absurd (one_is_not_zero (line (row x 6 3 o) (item_at items 51) (o.selected.meets 51) refl))
+  lwu (suc (suc (suc (suc zero)))) l o = let r = row x 6 4 o in let s = o.selected in access_of x s kinds.Lwu 4 (amount r kind refl) (amount r off refl) l refl (limbs_low _ _ _ (four (f 24) (f 25) (f 26) (f 27)) (amount r mlo refl) (amount r mhi refl) (lwu_is 4 (whole f 20) (whole f 28) _ (part_4 (f 20) (f 21) (f 22) (f 23) (f 24) (f 25) (f 26) (f 27) (old_bytes x s) 1 (lit< tt))) (omega (arith, (bound x s 24), (bound x s 25), (bound x s 26), (bound x s 27))))
+  lwu (suc (suc (suc (suc (suc zero))))) l o = absurd (one_is_not_zero (line (row x 6 5 o) (item_at items 51) (o.selected.meets 51) refl))
+  lwu (suc (suc (suc (suc (suc (suc zero)))))) l o = absurd (one_is_not_zero (line (row x 6 6 o) (item_at items 51) (o.selected.meets 51) refl))
+  lwu (suc (suc (suc (suc (suc (suc (suc zero))))))) l o = absurd (one_is_not_zero (line (row x 6 7 o) (item_at items 51) (o.selected.meets 51) refl))
+  lwu (suc (suc (suc (suc (suc (suc (suc (suc j)))))))) l o = absurd (omega (arith, l))

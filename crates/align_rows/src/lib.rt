@@ -1,0 +1,8 @@
+//! The tables of Align.
+#![tactic(auto)]
+
+mod cells;
+mod expansion;
+
+pub use expansion::expand;
+
