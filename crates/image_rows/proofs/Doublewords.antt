@@ -8,7 +8,7 @@ use Rattle.rv_model.specs.declared.machine.TheConstants.{MEMORY_WORDS}
 use Rattle.step_rows.specs.declared.doubleword.Doubleword.{Doubleword}
 use Rattle.step_rows.specs.Initial.{doublewords, unless_zero, initial_doublewords}
 use Rattle.image_rows.specs.Laws.{IsInitial, AreInitial}
-use Rattle.image_rows.proofs.Below.{each_below, contains_below, pairs_below}
+use Rattle.image_rows.proofs.Below.{each_below, contains_below, pairs_below, length_below}
 use Rattle.image_rows.proofs.Zero.{many_doublewords}
 
 record IsAt (k v : ℕ) (d : Doubleword) : Type 0 where
@@ -43,3 +43,7 @@ module _ (image : Img) where
       let no : (initial_word image k == 0) ≡ false = ne_eqb (initial_word image k) 0 some in
       contains_below (λ k. unless_zero k (initial_word image k)) doublewords k (record { number = k; value = initial_word image k }) (omega arith) (rw no refl);
   }
+
+pub few_doublewords : (image : Img) → length (initial_doublewords image) ≤ MEMORY_WORDS
+unfolding initial_doublewords
+few_doublewords image = let n = many_doublewords in let h = length_below (λ k. unless_zero k (initial_word image k)) doublewords in omega arith

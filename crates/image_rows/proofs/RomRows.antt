@@ -1,7 +1,8 @@
 -- Rom's rows, by what the image says at each pc.
-use Rattle.std.proofs.Common.{◌≡◌, ◌==◌, ◌&&◌, ◌+◌, ◌*◌, ◌/◌, ◌%◌, ◌<◌, ◌≤◌, ℕ, suc, Bool, true, false, cond, List, [], ◌∷◌, length, get_or, Option, None, Some, refl, ap, sym, ◌∙◌, subst, arith}
-use Rattle.std.specs.Prelude.{find, Contains, All, AllPairs}
+use Rattle.std.proofs.Common.{◌≡◌, ◌==◌, ◌&&◌, ◌+◌, ◌*◌, ◌/◌, ◌%◌, ◌^◌, ◌<◌, ◌≤◌, ℕ, suc, Bool, true, false, cond, List, [], ◌∷◌, length, get_or, Option, None, Some, refl, ap, sym, ◌∙◌, subst, arith}
+use Rattle.std.specs.Prelude.{find, Contains, All, AllPairs, IsSome}
 use Rattle.std.specs.Option.{option_map}
+use Rattle.std.proofs.lemmas.Bool.{false≢true}
 use Rattle.std.proofs.lemmas.Bool.Decides.{nat_tests}
 use Rattle.rv_word.specs.declared.instr.Instr.{Instr}
 use Rattle.rv_word.specs.declared.instr.Instr.TheVariants.{Lui, Auipc, Jal, Jalr, Branch, Load, Store, OpImm, Op, Fence, Ecall, Ebreak}
@@ -11,7 +12,7 @@ use Rattle.rv_model.specs.declared.machine.TheConstants.{MEMORY_END}
 use Rattle.step_rows.specs.declared.rom_row.RomRow.{RomRow}
 use Rattle.step_rows.specs.Rom.{words, rom_row, row_unless_break, row_at, rom_rows}
 use Rattle.image_rows.specs.Laws.{IsRowOf, IsRom}
-use Rattle.image_rows.proofs.Below.{each_below, contains_below, pairs_below}
+use Rattle.image_rows.proofs.Below.{each_below, contains_below, pairs_below, length_below}
 use Rattle.image_rows.proofs.Words.{many_words}
 
 record IsRowAt (pc : ℕ) (o : Option Instr) (row : RomRow) : Type 0 where
@@ -70,26 +71,42 @@ own_pc pc Ebreak = refl
 ends : (s : Seg) (a : ℕ) → runs_at a s ≡ true → a + 4 ≤ s.start + s.len
 ends s a e = grind (arith, nat_tests)
 
-in_segments : (pc : ℕ) (i : Instr) (segments : List Seg) → All IsSegment segments → instr_of (option_map (λ s. word_in s pc) (find (runs_at pc) segments)) ≡ Some i → pc < MEMORY_END
-in_segments pc i [] all e = absurd cc
-in_segments pc i (s ∷ ss) all e =
-    let rest = in_segments pc i ss (λ j d lt. all (suc j) d (omega arith)) in
-    let found : (b : Bool) → runs_at pc s ≡ b → instr_of (option_map (λ s. word_in s pc) (cond b (Some s) (find (runs_at pc) ss))) ≡ Some i → pc < MEMORY_END =
-      λ b. elim b as (λ v. runs_at pc s ≡ v → instr_of (option_map (λ s. word_in s pc) (cond v (Some s) (find (runs_at pc) ss))) ≡ Some i → pc < MEMORY_END) [
+in_segments : (pc w : ℕ) (segments : List Seg) → All IsSegment segments → option_map (λ s. word_in s pc) (find (runs_at pc) segments) ≡ Some w → pc < MEMORY_END
+in_segments pc w [] all e = absurd cc
+in_segments pc w (s ∷ ss) all e =
+    let rest = in_segments pc w ss (λ j d lt. all (suc j) d (omega arith)) in
+    let found : (b : Bool) → runs_at pc s ≡ b → option_map (λ s. word_in s pc) (cond b (Some s) (find (runs_at pc) ss)) ≡ Some w → pc < MEMORY_END =
+      λ b. elim b as (λ v. runs_at pc s ≡ v → option_map (λ s. word_in s pc) (cond v (Some s) (find (runs_at pc) ss)) ≡ Some w → pc < MEMORY_END) [
         | true ↦ λ at h. let end = ends s pc at in let top = (all 0 s (omega arith)).below in omega arith
         | false ↦ λ at h. rest h
       ] in
     found (runs_at pc s) refl e
 
-in_memory : (image : Img) (pc : ℕ) (i : Instr) → IsLoadable image → instr_of (fetch image pc) ≡ Some i → (pc % 4 ≡ 0) × (pc < MEMORY_END)
+fetched_in : (image : Img) (pc w : ℕ) → IsLoadable image → fetch image pc ≡ Some w → (pc % 4 ≡ 0) × (pc < MEMORY_END)
 unfolding fetch
-in_memory image pc i loadable e =
-    let aligned : (b : Bool) → (pc % 4 == 0) ≡ b → instr_of (cond b (option_map (λ s. word_in s pc) (find (runs_at pc) image.segments)) None) ≡ Some i → (pc % 4 ≡ 0) × (pc < MEMORY_END) =
-      λ b. elim b as (λ v. (pc % 4 == 0) ≡ v → instr_of (cond v (option_map (λ s. word_in s pc) (find (runs_at pc) image.segments)) None) ≡ Some i → (pc % 4 ≡ 0) × (pc < MEMORY_END)) [
-        | true ↦ λ at h. (grind (arith, nat_tests), in_segments pc i image.segments loadable.segments h)
+fetched_in image pc w loadable e =
+    let aligned : (b : Bool) → (pc % 4 == 0) ≡ b → cond b (option_map (λ s. word_in s pc) (find (runs_at pc) image.segments)) None ≡ Some w → (pc % 4 ≡ 0) × (pc < MEMORY_END) =
+      λ b. elim b as (λ v. (pc % 4 == 0) ≡ v → cond v (option_map (λ s. word_in s pc) (find (runs_at pc) image.segments)) None ≡ Some w → (pc % 4 ≡ 0) × (pc < MEMORY_END)) [
+        | true ↦ λ at h. (grind (arith, nat_tests), in_segments pc w image.segments loadable.segments h)
         | false ↦ λ at h. absurd cc
       ] in
     aligned (pc % 4 == 0) refl e
+
+in_memory : (image : Img) (pc : ℕ) (i : Instr) → IsLoadable image → instr_of (fetch image pc) ≡ Some i → (pc % 4 ≡ 0) × (pc < MEMORY_END)
+in_memory image pc i loadable e =
+    let by : (o : Option ℕ) → fetch image pc ≡ o → instr_of o ≡ Some i → (pc % 4 ≡ 0) × (pc < MEMORY_END) =
+      λ o. elim o as (λ v. fetch image pc ≡ v → instr_of v ≡ Some i → (pc % 4 ≡ 0) × (pc < MEMORY_END)) [ None ↦ λ at h. absurd cc | Some w ↦ λ at h. fetched_in image pc w loadable at ] in
+    by (fetch image pc) refl e
+
+pub entry_in : (image : Img) → IsLoadable image → image.entry < MEMORY_END
+entry_in image loadable =
+    let by : (o : Option ℕ) → fetch image image.entry ≡ o → IsSome o → image.entry < MEMORY_END =
+      λ o. elim o as (λ v. fetch image image.entry ≡ v → IsSome v → image.entry < MEMORY_END) [ None ↦ λ at h. absurd (false≢true h) | Some w ↦ λ at h. (fetched_in image image.entry w loadable at).1 ] in
+    by (fetch image image.entry) refl loadable.entry
+
+pub few_rows : (image : Img) → length (rom_rows image) ≤ 2 ^ 30
+unfolding rom_rows
+few_rows image = let n = many_words in let h = length_below (λ k. row_at image (4 * k)) words in omega arith
 
 -- ---- all rows
 module _ (image : Img) (loadable : IsLoadable image) where
@@ -118,3 +135,6 @@ module _ (image : Img) (loadable : IsLoadable image) where
       let memory = in_memory image pc i loadable e in
       contains_below (λ k. row_at image (4 * k)) words (pc / 4) (rom_row pc i) (omega (arith, memory.1)) (row_for pc i e ne);
   }
+
+pub rows_in_memory : (image : Img) → IsLoadable image → All (λ (row : RomRow). row.pc < MEMORY_END) (rom_rows image)
+rows_in_memory image loadable k d lt = ((is_rom image loadable).each k d lt).below

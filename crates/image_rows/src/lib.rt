@@ -8,4 +8,4 @@ mod rom;
 
 pub use initial::initial_doublewords;
 pub use laws::{initial_law, rom_law};
-pub use rom::rom_rows;
+pub use rom::{entry, rom_rows};
