@@ -26,7 +26,8 @@ use Rattle.min_trace.specs.Operands.{rs1_of, op_of, uw_of, compared_by}
 use Rattle.min_trace.specs.Record.{record_at}
 use Rattle.min_trace.specs.declared.record.StepRecord.{StepRecord}
 use Rattle.step_rows.specs.Words.{low, high, one_if}
-use Rattle.step_rows.specs.Rom.{RomRow, target, rom_row, cells, turned}
+use Rattle.step_rows.specs.Rom.{target, rom_row, cells, turned}
+use Rattle.step_rows.specs.declared.rom_row.RomRow.{RomRow}
 use Rattle.step_rows.specs.Tuples.{op_tuple}
 use Rattle.step_rows.specs.MainRow.{main_row, of_access}
 use Rattle.rv_word.specs.Numbers.{op_number, kind_number}

@@ -10,7 +10,8 @@ use Rattle.rv_word.specs.declared.instr.Instr.TheVariants.{Lui, Auipc, Jal, Jalr
 use Rattle.rv_word.specs.Is.{decoded}
 use Rattle.rv_model.specs.Image.{Img, fetch}
 use Rattle.rv_model.specs.Code.{instr_of}
-use Rattle.step_rows.specs.Rom.{RomRow, rom_row, row_unless_break, row_at, rom_rows}
+use Rattle.step_rows.specs.Rom.{rom_row, row_unless_break, row_at, rom_rows}
+use Rattle.step_rows.specs.declared.rom_row.RomRow.{RomRow}
 
 -- the row is that of an executable word that is an instruction other than EBREAK
 pub record RowOf (image : Img) (row : RomRow) : Type 0 where

@@ -14,7 +14,8 @@ use Rattle.machine_text.specs.Main.{items}
 use Rattle.machine_text.specs.Rom
 use Rattle.rv_model.specs.Image.{Img}
 use Rattle.step_rows.specs.Words.{one_if}
-use Rattle.step_rows.specs.Rom.{RomRow, rom_row}
+use Rattle.step_rows.specs.Rom.{rom_row}
+use Rattle.step_rows.specs.declared.rom_row.RomRow.{RomRow}
 use Rattle.step_rows.specs.Tuples.{IsOperation, IsAccess}
 use Rattle.air_main.proofs.Rom.{RowOf}
 use Rattle.air_main.specs.Law.{HasMain, Meets as MeetsMain, IsRomPc}

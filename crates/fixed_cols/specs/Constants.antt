@@ -3,6 +3,8 @@ use Rattle.std.specs.Prelude.{ℕ, ◌+◌, ◌-◌, ◌*◌, ◌/◌, ◌%◌, 
 use Rattle.std.specs.List.{slice_get}
 use Rattle.fixed_cols.specs.declared.sizes.Sizes.{Sizes}
 use Rattle.rv_model.specs.Image.{Img}
+use Rattle.rv_model.specs.declared.machine.TheConstants.{EXIT_REGISTER, OUTPUT_INDEX, OUTPUT_WORDS}
+use Rattle.step_rows.specs.declared.key.TheConstants.{REGISTERS}
 use Rattle.zk_layout.specs.Air.{air_number, rows_in}
 use Rattle.zk_layout.specs.Namespaces.{namespace_number}
 use Rattle.zk_layout.specs.declared.air.Air.TheVariants as airs
@@ -63,9 +65,9 @@ of_main entry i n r m =
 abbrev pub of_mem : ℕ → ℕ → ℕ → ℕ → List ℕ
 of_mem i n r m = i ∷ is_last r m ∷ is_first i r ∷ leaves i n r m ∷ enters i r ∷ []
 
--- SEL and KEY: x10, and the doublewords of the output window
+-- SEL and KEY: the register that a halted run publishes, and the doublewords of the output window
 abbrev pub of_out : ℕ → List ℕ
-of_out r = if r == 0 then 1 ∷ 536870922 ∷ [] else if nat_lt r 33 then 1 ∷ (167772160 + r - 1) ∷ [] else []
+of_out r = if r == 0 then 1 ∷ (REGISTERS + EXIT_REGISTER) ∷ [] else if nat_lt r (OUTPUT_WORDS + 1) then 1 ∷ (OUTPUT_INDEX + r - 1) ∷ [] else []
 
 -- ---- all of them
 
@@ -73,38 +75,58 @@ of_out r = if r == 0 then 1 ∷ 536870922 ∷ [] else if nat_lt r 33 then 1 ∷ 
 abbrev pub instances_for : ℕ → ℕ
 instances_for rows = max 1 ((rows + 1023) / 1024)
 
+-- what the constants are made of: the first pc, the rows of Rom and Init, and how many tables there are
+pub record Fixed : Type 0 where
+  pub entry : ℕ
+  pub rom : List RomRow
+  pub initial : List Doubleword
+  pub sizes : Sizes
+
+abbrev pub fixed_of : Img → Sizes → Fixed
+fixed_of image sizes = record { entry = image.entry; rom = rom_rows image; initial = initial_doublewords image; sizes = sizes }
+
 -- how many instances a namespace has: an air as many as there are tables of it
-abbrev pub instances_of : Img → Sizes → Namespace → ℕ
-instances_of image sizes Bit = 1
-instances_of image sizes Range16 = 1
-instances_of image sizes BinTab = 1
-instances_of image sizes ShiftTab = 1
-instances_of image sizes Rom = instances_for (length (rom_rows image))
-instances_of image sizes Init = instances_for (length (initial_doublewords image))
-instances_of image sizes Main = slice_index sizes.counts (air_number airs.Main)
-instances_of image sizes Mem = slice_index sizes.counts (air_number airs.Mem)
-instances_of image sizes Out = slice_index sizes.counts (air_number airs.Out)
-instances_of image sizes Align = slice_index sizes.counts (air_number airs.Align)
-instances_of image sizes Binary = slice_index sizes.counts (air_number airs.Binary)
-instances_of image sizes Shift = slice_index sizes.counts (air_number airs.Shift)
-instances_of image sizes Arith = slice_index sizes.counts (air_number airs.Arith)
+abbrev pub instances_in : Fixed → Namespace → ℕ
+instances_in f Bit = 1
+instances_in f Range16 = 1
+instances_in f BinTab = 1
+instances_in f ShiftTab = 1
+instances_in f Rom = instances_for (length f.rom)
+instances_in f Init = instances_for (length f.initial)
+instances_in f Main = slice_index f.sizes.counts (air_number airs.Main)
+instances_in f Mem = slice_index f.sizes.counts (air_number airs.Mem)
+instances_in f Out = slice_index f.sizes.counts (air_number airs.Out)
+instances_in f Align = slice_index f.sizes.counts (air_number airs.Align)
+instances_in f Binary = slice_index f.sizes.counts (air_number airs.Binary)
+instances_in f Shift = slice_index f.sizes.counts (air_number airs.Shift)
+instances_in f Arith = slice_index f.sizes.counts (air_number airs.Arith)
 
 -- the constants of a namespace at row r of instance i, in order of its columns; what isn't listed is 0
-abbrev pub constants : Img → Sizes → Namespace → ℕ → ℕ → List ℕ
-constants image sizes Bit i r = numbered r
-constants image sizes Range16 i r = numbered r
-constants image sizes BinTab i r = byte_pair r
-constants image sizes ShiftTab i r = shift_amount r
-constants image sizes Rom i r = instruction (slice_get (rom_rows image) (1024 * i + r))
-constants image sizes Init i r = doubleword (slice_get (initial_doublewords image) (1024 * i + r))
-constants image sizes Main i r = of_main image.entry i (slice_index sizes.counts (air_number airs.Main)) r (rows_in sizes.profile airs.Main)
-constants image sizes Mem i r = of_mem i (slice_index sizes.counts (air_number airs.Mem)) r (rows_in sizes.profile airs.Mem)
-constants image sizes Out i r = of_out r
-constants image sizes Align i r = []
-constants image sizes Binary i r = []
-constants image sizes Shift i r = []
-constants image sizes Arith i r = []
+abbrev pub constants_in : Fixed → Namespace → ℕ → ℕ → List ℕ
+constants_in f Bit i r = numbered r
+constants_in f Range16 i r = numbered r
+constants_in f BinTab i r = byte_pair r
+constants_in f ShiftTab i r = shift_amount r
+constants_in f Rom i r = instruction (slice_get f.rom (1024 * i + r))
+constants_in f Init i r = doubleword (slice_get f.initial (1024 * i + r))
+constants_in f Main i r = of_main f.entry i (slice_index f.sizes.counts (air_number airs.Main)) r (rows_in f.sizes.profile airs.Main)
+constants_in f Mem i r = of_mem i (slice_index f.sizes.counts (air_number airs.Mem)) r (rows_in f.sizes.profile airs.Mem)
+constants_in f Out i r = of_out r
+constants_in f Align i r = []
+constants_in f Binary i r = []
+constants_in f Shift i r = []
+constants_in f Arith i r = []
 
 -- the value of a constant column
+abbrev pub constant_in : Fixed → Namespace → ℕ → ℕ → ℕ → ℕ
+constant_in f space i k r = slice_index (constants_in f space i r) k
+
+-- ---- of an image and tables of these sizes
+abbrev pub instances_of : Img → Sizes → Namespace → ℕ
+instances_of image sizes = instances_in (fixed_of image sizes)
+
+abbrev pub constants : Img → Sizes → Namespace → ℕ → ℕ → List ℕ
+constants image sizes = constants_in (fixed_of image sizes)
+
 unfoldable pub constant : Img → Sizes → Namespace → ℕ → ℕ → ℕ → ℕ
-constant image sizes space i k r = slice_index (constants image sizes space i r) k
+constant image sizes = constant_in (fixed_of image sizes)

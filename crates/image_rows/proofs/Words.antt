@@ -73,13 +73,13 @@ all_below : (image : Img) → rom_rows image ≡ rows_below image words
 unfolding rom_rows rows_below
 all_below image = refl
 
-many : words ≡ 2 ^ 30
+pub many_words : words ≡ 2 ^ 30
 unfolding words
-many = refl
+many_words = refl
 
 pub all_rows : (image : Img) (found : List RomRow) (n : ℕ) → n ≤ 2 ^ 30 → HasAllRows image found n → ((k : ℕ) → n ≤ k → row_at image (4 * k) ≡ None) → found ≡ rom_rows image
 all_rows image found n le h none =
-    let e = many in
+    let e = many_words in
     rows_same image found n words (omega arith) h (λ k low high. none k low) ∙ sym (all_below image)
 
 pub no_rows : (image : Img) (found : List RomRow) → found ≡ [] → HasAllRows image found 0

@@ -123,13 +123,13 @@ all_below : (image : Img) → initial_doublewords image ≡ doublewords_below im
 unfolding initial_doublewords doublewords_below
 all_below image = refl
 
-many : doublewords ≡ MEMORY_WORDS
+pub many_doublewords : doublewords ≡ MEMORY_WORDS
 unfolding doublewords
-many = refl
+many_doublewords = refl
 
 pub all_doublewords : (image : Img) (found : List Doubleword) (n : ℕ) → n ≤ MEMORY_WORDS → HasAllDoublewords image found n → ((k : ℕ) → n ≤ k → initial_word image k ≡ 0) → found ≡ initial_doublewords image
 all_doublewords image found n le h zeros =
-    let e = many in
+    let e = many_doublewords in
     doublewords_same image found n doublewords (omega arith) h (λ k low high. zeros k low) ∙ sym (all_below image)
 
 pub no_doublewords : (image : Img) (found : List Doubleword) → found ≡ [] → HasAllDoublewords image found 0

@@ -1,5 +1,5 @@
 //! The doublewords of memory that aren't 0 when a run starts.
-ghost use Rattle.std.specs.Prelude.{◌≡◌, ◌≤◌, max, IfOk, OnOk};
+ghost use Rattle.std.specs.Prelude.{◌≡◌, ◌≤◌, max, length, IfOk, OnOk};
 ghost use Rattle.step_rows.specs.Initial.{initial_doublewords};
 ghost use Rattle.image_rows.specs.Found.{HasAllDoublewords, IsZeroBetween, end_doubleword, end_of_input};
 
@@ -70,7 +70,8 @@ fn end_doubleword(segment: &Segment) -> u32
 ///
 /// Memory ran out.
 pub fn initial_doublewords(alloc: Global, image: &Image) -> Result<Vec<Doubleword>, AllocError>
-    ensures { IfOk result (λ v. v.items ≡ initial_doublewords image.now) }
+    ensures value { IfOk result (λ v. v.items ≡ initial_doublewords image.now) }
+    ensures few { IfOk result (λ v. length v.items ≤ MEMORY_WORDS) }
 {
     let mut found = Found {
         doublewords: Vec::new(alloc),

@@ -3,7 +3,9 @@
 #![tactic(auto)]
 
 mod initial;
+mod laws;
 mod rom;
 
 pub use initial::initial_doublewords;
-pub use rom::rom_rows;
+pub use laws::{initial_law, rom_law};
+pub use rom::{entry, rom_rows};

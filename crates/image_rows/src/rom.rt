@@ -1,9 +1,9 @@
 //! The rows of Rom.
-ghost use Rattle.std.specs.Prelude.{◌≡◌, ◌<◌, ◌^◌, max, IfOk, OnOk};
+ghost use Rattle.std.specs.Prelude.{◌≡◌, ◌<◌, ◌≤◌, ◌^◌, max, length, All, IfOk, OnOk};
 ghost use Rattle.step_rows.specs.Rom.{row_at, rom_rows};
 ghost use Rattle.image_rows.specs.Found.{HasAllRows, first_word, end_word};
 
-use rv_model::{Image, Segment};
+use rv_model::{Image, MEMORY_END, Segment};
 use rv_word::Instr;
 use std::alloc::{AllocError, Global};
 use step_rows::RomRow;
@@ -53,7 +53,9 @@ fn end_word(segment: &Segment) -> u64
 ///
 /// Memory ran out.
 pub fn rom_rows(alloc: Global, image: &Image) -> Result<Vec<RomRow>, AllocError>
-    ensures { IfOk result (λ v. v.items ≡ rom_rows image.now) }
+    ensures value { IfOk result (λ v. v.items ≡ rom_rows image.now) }
+    ensures few { IfOk result (λ v. length v.items ≤ 2 ^ 30) }
+    ensures in_memory { IfOk result (λ v. All (λ row. row.pc < MEMORY_END) v.items) }
 {
     let mut rows = Vec::new(alloc);
     for segment in &image.segments {
@@ -62,4 +64,11 @@ pub fn rom_rows(alloc: Global, image: &Image) -> Result<Vec<RomRow>, AllocError>
         }
     }
     Ok(rows)
+}
+
+/// The first pc, which lies in memory.
+pub fn entry(image: &Image) -> u32
+    ensures { result ≡ image.now.entry }
+{
+    image.entry as u32
 }

@@ -1,5 +1,5 @@
 -- The rows of Rom: what an instruction tells the step that executes it (docs/WITNESS.md, "Rom").
-use Rattle.std.specs.Prelude.{ℕ, ℤ, ◌+◌, ◌*◌, ◌%◌, ◌^◌, ◌==◌, ◌&&◌, nat_lt, Bool, if◌then◌else◌, List, [], ◌∷◌, Option, None, Some, option_map}
+use Rattle.std.specs.Prelude.{ℕ, ℤ, ◌+◌, ◌*◌, ◌/◌, ◌%◌, ◌==◌, ◌&&◌, nat_lt, Bool, if◌then◌else◌, List, [], ◌∷◌, Option, None, Some, option_map}
 use Rattle.std.specs.List.{filter_map, range_with_len}
 use Rattle.rv_word.specs.declared.instr.Cond.{Cond}
 use Rattle.rv_word.specs.declared.instr.Cond.TheVariants as conds
@@ -9,6 +9,7 @@ use Rattle.rv_word.specs.declared.instr.Instr.{Instr}
 use Rattle.rv_word.specs.declared.instr.Instr.TheVariants.{Lui, Auipc, Jal, Jalr, Branch, Load, Store, OpImm, Op, Fence, Ecall, Ebreak}
 use Rattle.rv_word.specs.Numbers.{op_number, kind_number}
 use Rattle.rv_model.specs.Image.{Img, fetch}
+use Rattle.rv_model.specs.declared.machine.TheConstants.{MEMORY_END}
 use Rattle.rv_model.specs.Op.{bits_of}
 use Rattle.rv_model.specs.State.{wrapped}
 use Rattle.min_trace.specs.Operands.{compared_by}
@@ -29,7 +30,7 @@ turned conds.Geu = 1
 unfoldable pub target : ℕ → ℤ → ℕ
 target pc imm =
     let t = wrapped (pc + bits_of imm) in
-    if t % 4 == 0 && nat_lt t (2 ^ 32) then t else 1
+    if t % 4 == 0 && nat_lt t MEMORY_END then t else 1
 
 -- x0 is never written
 unfoldable pub writes : ℕ → ℕ
@@ -77,7 +78,7 @@ row_at image pc = row_unless_break pc (instr_of (fetch image pc))
 
 -- how many words of four bytes memory has
 unfoldable pub words : ℕ
-words = 2 ^ 30
+words = MEMORY_END / 4
 
 -- all rows, in order of pc
 unfoldable pub rom_rows : Img → List RomRow

@@ -2,7 +2,9 @@
 #![tactic(auto)]
 
 mod doubleword;
+mod key;
 mod rom_row;
 
 pub use doubleword::Doubleword;
+pub use key::REGISTERS;
 pub use rom_row::RomRow;

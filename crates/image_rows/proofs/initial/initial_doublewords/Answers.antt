@@ -1,5 +1,9 @@
 use Rattle.std.proofs.Common.{◌≡◌, ◌+◌, ◌≤◌, ◌<◌, ◌⊎◌, inl, inr, ⊎_elim, ℕ, List, length, get_or, arith, subst, ap, sym, ◌∙◌}
 use Rattle.rv_model.specs.Image.{Img, Seg}
+use Rattle.rv_model.specs.declared.machine.TheConstants.{MEMORY_WORDS}
+use Rattle.step_rows.specs.declared.doubleword.Doubleword.{Doubleword}
+use Rattle.step_rows.specs.Initial.{initial_doublewords}
+use Rattle.image_rows.proofs.Doublewords.{few_doublewords}
 use Rattle.image_rows.specs.Found.{HasAllDoublewords, end_doubleword, end_of_input}
 use Rattle.image_rows.proofs.Zero.{IsPast, past_of, past_further, zero_to_input, zero_to_segment, zero_past, all_doublewords, no_doublewords}
 use Rattle.image_rows.proofs.initial.initial_doublewords.Goals as goal
@@ -46,8 +50,8 @@ add_input-requires-2-clause-zero c =
     (ap (λ (i : Img). i.segments) c.image.view_is) c.image.invariant.loadable.ascending c.loop-segment.invariant.past in
     λ k low high. zero_past c.args.image.now c.deref-segment-items.result.now c.loop-segment.segment-index c.loop-segment.found.below past c.loop-segment-test.false k low (inr high)
 
-pub returns : goal.returns
-returns c =
+found_all : (c : goal.In_ok-add_input-2) → c.add_input-2.new.self.doublewords.items ≡ initial_doublewords c.args.image.now
+found_all c =
     let past = past_of c.args.image.now c.deref-segment-items.result.now c.image.inside.segments.items c.loop-segment.segment-index c.loop-segment.found.below c.deref-segment-items.ensures.value
     (ap (λ (i : Img). i.segments) c.image.view_is) c.image.invariant.loadable.ascending c.loop-segment.invariant.past in
     let h = c.in_ok-add_input-2.ensures in
@@ -57,3 +61,8 @@ returns c =
     (λ k low. zero_past c.args.image.now c.deref-segment-items.result.now c.loop-segment.segment-index c.add_input-2.new.self.below
     (past_further c.args.image.now c.deref-segment-items.result.now c.loop-segment.segment-index c.loop-segment.found.below c.add_input-2.new.self.below past (omega (arith, h.1)))
     c.loop-segment-test.false k low (inl (omega (arith, h.1))))
+
+pub returns : goal.returns
+returns c =
+    let e = found_all c in
+    record { value = e; few = let P : List Doubleword → Type 0 = λ l. length l ≤ MEMORY_WORDS in subst P (sym e) (few_doublewords c.args.image.now) }

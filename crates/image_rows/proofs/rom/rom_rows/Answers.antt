@@ -1,7 +1,9 @@
 use Rattle.std.proofs.Common.{◌≡◌, ◌+◌, ◌*◌, ◌^◌, ◌≤◌, ◌<◌, ◌⊎◌, inl, inr, ⊎_elim, ℕ, max, List, length, get_or, true, false, arith, subst, ap, sym, ◌∙◌}
-use Rattle.std.specs.Prelude.{AllPairs}
-use Rattle.rv_model.specs.Image.{Img, Seg, EndsBefore}
+use Rattle.std.specs.Prelude.{All, AllPairs}
+use Rattle.rv_model.specs.Image.{Img, Seg, EndsBefore, IsLoadable}
 use Rattle.rv_model.specs.declared.machine.TheConstants.{MEMORY_END}
+use Rattle.step_rows.specs.declared.rom_row.RomRow.{RomRow}
+use Rattle.image_rows.proofs.RomRows.{few_rows, rows_in_memory}
 use Rattle.image_rows.specs.Found.{HasAllRows, first_word, end_word}
 use Rattle.image_rows.proofs.Words.{IsPast, none_past, none_to_segment, below_first, past_executable, past_other, rows_same, all_rows, no_rows}
 use Rattle.image_rows.proofs.rom.rom_rows.Goals as goal
@@ -75,4 +77,12 @@ returns c =
       past = v.past;
       before = v.before;
     } in
-    all_rows c.args.image.now c.loop-segment.rows.items v.below v.most v.found (none_past c.args.image.now items c.loop-segment.segment-index v.below past c.loop-segment-test.false)
+    let e = all_rows c.args.image.now c.loop-segment.rows.items v.below v.most v.found (none_past c.args.image.now items c.loop-segment.segment-index v.below past c.loop-segment-test.false) in
+    record {
+      value = e;
+      few = let P : List RomRow → Type 0 = λ l. length l ≤ 2 ^ 30 in subst P (sym e) (few_rows c.args.image.now);
+      in_memory =
+          let P : List RomRow → Type 0 = λ l. All (λ (row : RomRow). row.pc < MEMORY_END) l in
+          let Q : Img → Type 0 = IsLoadable in
+          subst P (sym e) (rows_in_memory c.args.image.now (subst Q c.image.view_is c.image.invariant.loadable));
+    }
