@@ -1,16 +1,15 @@
 -- The row of an operation meets the lines of Binary.
-use Rattle.std.proofs.Common.{lit<, ℕ, suc, ◌+◌, ◌-◌, ◌*◌, ◌%◌, ◌/◌, ◌^◌, ◌<◌, ◌≤◌, ◌≡◌, ◌≢◌, inl, inr, Bool, true, false, cond, eqb, ltb, bit_and, get_or, map, List, [], ◌∷◌, ◌++◌, refl, ap, subst, sym, ◌∙◌, arith}
+use Rattle.std.proofs.Common.{lit<, ℕ, suc, ◌+◌, ◌-◌, ◌*◌, ◌%◌, ◌/◌, ◌^◌, ◌<◌, ◌≤◌, ◌≡◌, ◌≢◌, inl, inr, Bool, true, false, cond, eqb, ltb, bit_and, get_or, List, [], ◌∷◌, ◌++◌, refl, ap, sym, ◌∙◌, arith}
 use Rattle.std.specs.Prelude.{slice_index, sum}
 use Rattle.std.specs.Int.{to_le_bytes, w64}
 use Rattle.std.proofs.lemmas.Bool.{ltb-true, cases_eq}
-use Rattle.std.proofs.lemmas.List.{get_or_default}
 use Rattle.std.proofs.lemmas.Bool.Decides.{nat_tests}
 use Rattle.pil_ast.specs.Term.{Namespace}
 use Rattle.pil_ast.specs.Columns.{Columns}
 use Rattle.pil_ast.specs.Value.{around}
 use Rattle.pil_ast.specs.Holds.{sent, tuple}
 use Rattle.pil_exact.proofs.Row.{Fact, is, most, AllMeet, Row, row_at, knowing, here, all_hold}
-use Rattle.pil_exact.proofs.Flags.{flags, Each, each}
+use Rattle.pil_exact.proofs.Flags.{flags, Each}
 use Rattle.pil_exact.proofs.Follows.{all_said, Rest}
 use Rattle.air_ops.proofs.BinarySound.{IsOp, tuple_is, add_is, sub_is, ltu_is, lt_is, eq_is, and_is, or_is, xor_is, addw_is, subw_is, sh1add_is, sh2add_is, sh3add_is, czeqz_is, cznez_is}
 use Rattle.air_ops.proofs.Limbwise.{IsAnd, joined}

@@ -3,24 +3,24 @@ use Rattle.std.proofs.Common.{ℕ, zero, suc, ◌+◌, ◌-◌, ◌*◌, ◌/◌
 use Rattle.std.proofs.lemmas.Bool.{cases_lt}
 use Rattle.rv_word.specs.declared.instr.OpNo.TheVariants as ops
 use Rattle.rv_model.specs.Op.{value_of, word}
-use Rattle.pil_ast.specs.Term.{lookup, Namespace, item_at}
+use Rattle.pil_ast.specs.Term.{lookup, Namespace}
 use Rattle.pil_ast.specs.Columns.{Columns}
 use Rattle.pil_ast.specs.Value.{Cells, around}
 use Rattle.pil_ast.specs.Holds.{sent}
 use Rattle.pil_exact.specs.Row.{Says}
-use Rattle.pil_exact.proofs.Row.{Fact, is, most, AllMeet, Row, row_at, here, amount, number, fact}
+use Rattle.pil_exact.proofs.Row.{Fact, most, AllMeet, Row, row_at, here, amount, number, fact}
 use Rattle.pil_exact.proofs.Follows.{Rest}
 use Rattle.air_ops.proofs.Limbs.{Limbs}
 use Rattle.air_ops.proofs.Digits.{Digits, Cut, piece, whole, half}
 use Rattle.air_ops.proofs.Twos.{word_plus, word_minus}
-use Rattle.step_rows.specs.ShiftRow.{right, signed, wide, amount as shift_amount, at_place, upper, shift_row}
+use Rattle.step_rows.specs.ShiftRow.{right, signed, wide, amount as shift_amount, at_place, upper}
 use Rattle.machine_text.specs.ShiftTab
 use Rattle.machine_text.specs.Shift.{items, clo}
 use Rattle.air_ops.specs.Tables.{Meets}
 use Rattle.air_ops.specs.Shift.{HasShift}
 use Rattle.air_ops.proofs.ShiftKnown.{told, asked, IsCell, cells_of}
 use Rattle.air_ops.proofs.ShiftCases as C
-use Rattle.air_ops.proofs.ShiftCases.{known, with_sign, digits, Results}
+use Rattle.air_ops.proofs.ShiftCases.{known, with_sign, digits}
 use Rattle.air_ops.proofs.ShiftValues.{low_left0, low_left1, low_right0, low_right1, low_copied0, low_copied1}
 use Rattle.air_ops.proofs.ShiftSound.{sll_is, srl_is, sra_plus, sra_minus, sllw_is, srlw_is, sraw_plus, sraw_minus, split, whole_power, turned_power, one_step, two_steps}
 use Rattle.air_ops.proofs.ShiftRows.{IsRowOf, at, honest_told, m_small, first_line, second_line, third_line, fourth_line}
