@@ -5,7 +5,6 @@ use Rattle.std.proofs.lemmas.List.{get_or_default}
 use Rattle.rv_word.specs.declared.instr.OpNo.{OpNo}
 use Rattle.rv_word.specs.Numbers.{op_number}
 use Rattle.rv_model.specs.Op.{value_of, flag_of}
-use Rattle.zk_layout.specs.Air.{air_of}
 use Rattle.zk_layout.specs.declared.air.Air.TheVariants as airs
 use Rattle.step_rows.specs.Tuples.{op_tuple, IsOperationOf}
 use Rattle.air_arith.proofs.Operation.{Limbs, IsOf}
@@ -48,13 +47,15 @@ module _ (ops : List OpNo) (first : ℕ) (numbered : (k : ℕ) → k < length op
 
 -- the tuple with these entries is that of an operation of Arith
 pub is_operation : (number alo ahi blo bhi clo chi flag : ℕ) → IsOf products_and_quotients number alo ahi blo bhi clo chi flag → IsOperationOf airs.Arith (number ∷ alo ∷ ahi ∷ blo ∷ bhi ∷ clo ∷ chi ∷ flag ∷ [])
-is_operation number alo ahi blo bhi clo chi flag w =
-    (record {
-      o = w.o;
-      a = w.a;
-      b = w.b;
-      a_fits = fits _ _ _ w.first;
-      b_fits = fits _ _ _ w.second;
-      value_fits = fits _ _ _ w.value;
-      is = λ i. w.number_is i ∷ low_of _ _ _ w.first i ∷ high_of _ _ _ w.first i ∷ low_of _ _ _ w.second i ∷ high_of _ _ _ w.second i ∷ low_of _ _ _ w.value i ∷ high_of _ _ _ w.value i ∷ w.flag_is i ∷ [];
-    }, in_air w.o w.here)
+is_operation number alo ahi blo bhi clo chi flag w = (
+  record {
+    o = w.o;
+    a = w.a;
+    b = w.b;
+    a_fits = fits _ _ _ w.first;
+    b_fits = fits _ _ _ w.second;
+    value_fits = fits _ _ _ w.value;
+    is = λ i. w.number_is i ∷ low_of _ _ _ w.first i ∷ high_of _ _ _ w.first i ∷ low_of _ _ _ w.second i ∷ high_of _ _ _ w.second i ∷ low_of _ _ _ w.value i ∷ high_of _ _ _ w.value i ∷ w.flag_is i ∷ [];
+  },
+  in_air w.o w.here,
+)

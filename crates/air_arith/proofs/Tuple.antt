@@ -1,10 +1,8 @@
 -- The row of an operation has the operation's tuple.
-use Rattle.std.proofs.Common.{ℕ, zero, suc, ◌+◌, ◌-◌, ◌<◌, ◌≡◌, ◌≢◌, true, ltb, List, get_or, map, refl, sym, ap, ◌∙◌, subst, arith as numbers}
+use Rattle.std.proofs.Common.{ℕ, zero, suc, ◌+◌, ◌-◌, ◌<◌, ◌≡◌, ◌≢◌, true, ltb, List, map, refl, sym, ap, ◌∙◌, subst, arith as numbers}
 use Rattle.std.specs.Prelude.{slice_index, slice_index_or}
 use Rattle.std.proofs.lemmas.Bool.{ltb-true}
-use Rattle.std.proofs.lemmas.List.{get_or_default}
 use Rattle.rv_word.specs.declared.instr.OpNo.{OpNo}
-use Rattle.rv_word.specs.declared.instr.OpNo.TheVariants as ops
 use Rattle.rv_word.specs.Numbers.{op_number}
 use Rattle.pil_ast.specs.Term.{Namespace}
 use Rattle.pil_ast.specs.Columns.{Columns}
@@ -64,10 +62,12 @@ arith_complete ns c i r o a b has e la lb given =
     let m = complete_for n l ns c i r a b has la lb h in
     let x = around ns c 12 i r in
     let s = selected ns c i r has m (not_none _ (at c i r a b n h 0 refl)) in
-    let row = base (around ns c 12 i r) s in
-    (m, subst (λ z. map (value z.items (around ns c 12 i r)) operation.terms ≡ op_tuple o a b) (sym has.stands)
-    (exactly products_and_quotients 17 numbered _ _ _ _ _ _ _ _ o a b (tuple_holds (around ns c 12 i r) s) (n, l, place.is o) (number_is c i r a b ns s n l h ∙ sym place.number)
-    (amount row alo refl ∙ low_limb _ _ a (at c i r a b n h 14 refl) (at c i r a b n h 15 refl))
-    (amount row ahi refl ∙ high_limb _ _ a la (at c i r a b n h 16 refl) (at c i r a b n h 17 refl))
-    (amount row blo refl ∙ low_limb _ _ b (at c i r a b n h 18 refl) (at c i r a b n h 19 refl))
-    (amount row bhi refl ∙ high_limb _ _ b lb (at c i r a b n h 20 refl) (at c i r a b n h 21 refl))))
+    let row = base (around ns c 12 i r) s in (
+      m,
+      subst (λ z. map (value z.items (around ns c 12 i r)) operation.terms ≡ op_tuple o a b) (sym has.stands)
+          (exactly products_and_quotients 17 numbered _ _ _ _ _ _ _ _ o a b (tuple_holds (around ns c 12 i r) s) (n, l, place.is o) (number_is c i r a b ns s n l h ∙ sym place.number)
+          (amount row alo refl ∙ low_limb _ _ a (at c i r a b n h 14 refl) (at c i r a b n h 15 refl))
+          (amount row ahi refl ∙ high_limb _ _ a la (at c i r a b n h 16 refl) (at c i r a b n h 17 refl))
+          (amount row blo refl ∙ low_limb _ _ b (at c i r a b n h 18 refl) (at c i r a b n h 19 refl))
+          (amount row bhi refl ∙ high_limb _ _ b lb (at c i r a b n h 20 refl) (at c i r a b n h 21 refl))),
+    )
