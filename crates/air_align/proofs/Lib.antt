@@ -13,6 +13,7 @@ mod Sb
 mod Sh
 mod Sw
 mod Sd
+mod Steps
 mod Aligns
 mod Complete
 mod Tuple
