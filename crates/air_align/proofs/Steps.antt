@@ -53,7 +53,7 @@ steps kinds.Sh = (λ x f h. ((h, refl), tt), (λ x f h. ((h, refl), tt), (λ x f
 steps kinds.Sw = (λ x f h. ((h, refl), tt), (λ x f h. ((h, refl), tt), tt))
 steps kinds.Sd = (λ x f h. ((h, refl), tt), tt)
 
-places : (k : Kind) (off : ℕ) → off < 8 → off / width k < 8 / width k
+pub places : (k : Kind) (off : ℕ) → off < 8 → off / width k < 8 / width k
 places kinds.Lb off l = omega arith
 places kinds.Lh off l = omega arith
 places kinds.Lw off l = omega arith
@@ -66,7 +66,7 @@ places kinds.Sh off l = omega arith
 places kinds.Sw off l = omega arith
 places kinds.Sd off l = omega arith
 
-multiple : (off w : ℕ) → off % w ≡ 0 → w * (off / w) ≡ off
+pub multiple : (off w : ℕ) → off % w ≡ 0 → w * (off / w) ≡ off
 multiple off w e = mul_comm w (off / w) ∙ without (off / w * w) (off % w) off (div-add-mod' off w) e
   where
     without : (p q m : ℕ) → p + q ≡ m → q ≡ 0 → p ≡ m
