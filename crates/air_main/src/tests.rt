@@ -1,11 +1,12 @@
 //! The part of the text, once for each profile.
-use crate::{main_constants, main_laws, spaces};
+use crate::{main_constants, main_laws, main_rows, spaces};
 use gold::Profile;
 use std::test::Fail;
 
 #[test]
 fn differs_in_the_rows_of_main_alone(rt: HostRuntime) -> Result<(), Fail> {
     main_laws();
+    main_rows();
     main_constants();
     let small = spaces(rt.alloc(), Profile::Small)?;
     let wide = spaces(rt.alloc(), Profile::Wide)?;
