@@ -48,7 +48,7 @@ module _ {Y : Type 0} (f : ℕ → Option Y) where
   each_below P (suc n) h =
       let rest = each_below P n (λ k y lt. h k y (omega arith)) in
       let at : (o : Option Y) → f n ≡ o → All P (option_to_list o) =
-        λ o. elim o as (λ v. f n ≡ v → All P (option_to_list v)) [ None ↦ λ e. All-nil P | Some y ↦ λ e. All-push P [] y (All-nil P) (h n y (omega arith) e) ] in
+      λ o. elim o as (λ v. f n ≡ v → All P (option_to_list v)) [ None ↦ λ e. All-nil P | Some y ↦ λ e. All-push P [] y (All-nil P) (h n y (omega arith) e) ] in
       All-same P (below (suc n)) (below n ++ option_to_list (f n)) (one_more n) (All-append P (below n) (option_to_list (f n)) rest (at (f n) refl))
 
   contained : (n : ℕ) (y : Y) → f n ≡ Some y → Contains (below (suc n)) y
@@ -61,7 +61,7 @@ module _ {Y : Type 0} (f : ℕ → Option Y) where
   contains_below (suc n) k y lt e =
       let P : List Y → Type 0 = λ ys. Contains ys y in
       ⊎_elim (λ less. subst P (sym (one_more n)) (Contains-append_left (below n) (option_to_list (f n)) y (contains_below n k y less e)))
-        (λ from. let is : k ≡ n = omega arith in contained n y (ap f (sym is) ∙ e)) (cases_lt k n)
+      (λ from. let is : k ≡ n = omega arith in contained n y (ap f (sym is) ∙ e)) (cases_lt k n)
 
   -- in ascending order by a number that ascends with k
   pub pairs_below : (h : Y → ℕ) (g : ℕ → ℕ) → ((k : ℕ) (y : Y) → f k ≡ Some y → h y ≡ g k) → ((j k : ℕ) → j < k → g j < g k) → (n : ℕ) → AllPairs (λ a b. h a < h b) (below n)
@@ -70,11 +70,11 @@ module _ {Y : Type 0} (f : ℕ → Option Y) where
       let P : List Y → Type 0 = λ ys. AllPairs (λ a b. h a < h b) ys in
       let rest = pairs_below h g is up n in
       let at : (o : Option Y) → f n ≡ o → AllPairs (λ a b. h a < h b) (below n ++ option_to_list o) =
-        λ o. elim o as (λ v. f n ≡ v → AllPairs (λ a b. h a < h b) (below n ++ option_to_list v)) [
-          | None ↦ λ e. subst P (sym (append-nil (below n))) rest
-          | Some y ↦ λ e. all_pairs_push (λ a b. h a < h b) (below n) y rest
-              (each_below (λ a. h a < h y) n (λ k a lt at_k. let a_is = is k a at_k in let y_is = is n y e in let less = up k n lt in omega arith))
-        ] in
+      λ o. elim o as (λ v. f n ≡ v → AllPairs (λ a b. h a < h b) (below n ++ option_to_list v)) [
+        | None ↦ λ e. subst P (sym (append-nil (below n))) rest
+        | Some y ↦ λ e. all_pairs_push (λ a b. h a < h b) (below n) y rest
+            (each_below (λ a. h a < h y) n (λ k a lt at_k. let a_is = is k a at_k in let y_is = is n y e in let less = up k n lt in omega arith))
+      ] in
       subst P (sym (one_more n)) (at (f n) refl)
 
   few : (o : Option Y) → length (option_to_list o) ≤ 1

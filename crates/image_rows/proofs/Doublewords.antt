@@ -19,13 +19,13 @@ record IsAt (k v : ℕ) (d : Doubleword) : Type 0 where
 kept : (k v : ℕ) (d : Doubleword) → unless_zero k v ≡ Some d → IsAt k v d
 kept k v d e =
     let by : (b : Bool) → (v == 0) ≡ b → cond b None (Some (record { number = k; value = v })) ≡ Some d → IsAt k v d =
-      λ b. elim b as (λ t. (v == 0) ≡ t → cond t None (Some (record { number = k; value = v })) ≡ Some d → IsAt k v d) [
-        | true ↦ λ z h. absurd cc
-        | false ↦ λ z h.
-            let w : Doubleword = record { number = k; value = v } in
-            let is : d ≡ w = cc in
-            record { number = ap (λ (x : Doubleword). x.number) is; value = ap (λ (x : Doubleword). x.value) is; some = λ zero'. grind (arith, nat_tests) }
-      ] in
+    λ b. elim b as (λ t. (v == 0) ≡ t → cond t None (Some (record { number = k; value = v })) ≡ Some d → IsAt k v d) [
+      | true ↦ λ z h. absurd cc
+      | false ↦ λ z h.
+          let w : Doubleword = record { number = k; value = v } in
+          let is : d ≡ w = cc in
+          record { number = ap (λ (x : Doubleword). x.number) is; value = ap (λ (x : Doubleword). x.value) is; some = λ zero'. grind (arith, nat_tests) }
+    ] in
     by (v == 0) refl e
 
 module _ (image : Img) where
@@ -40,8 +40,8 @@ module _ (image : Img) where
     ascending = pairs_below (λ k. unless_zero k (initial_word image k)) (λ (d : Doubleword). d.number) (λ k. k) (λ k d e. (kept k (initial_word image k) d e).number) (λ j k lt. lt) doublewords;
     each = each_below (λ k. unless_zero k (initial_word image k)) (IsInitial image) doublewords one;
     every = λ k lt some.
-      let no : (initial_word image k == 0) ≡ false = ne_eqb (initial_word image k) 0 some in
-      contains_below (λ k. unless_zero k (initial_word image k)) doublewords k (record { number = k; value = initial_word image k }) (omega arith) (rw no refl);
+        let no : (initial_word image k == 0) ≡ false = ne_eqb (initial_word image k) 0 some in
+        contains_below (λ k. unless_zero k (initial_word image k)) doublewords k (record { number = k; value = initial_word image k }) (omega arith) (rw no refl);
   }
 
 pub few_doublewords : (image : Img) → length (initial_doublewords image) ≤ MEMORY_WORDS

@@ -76,32 +76,32 @@ in_segments pc w [] all e = absurd cc
 in_segments pc w (s ∷ ss) all e =
     let rest = in_segments pc w ss (λ j d lt. all (suc j) d (omega arith)) in
     let found : (b : Bool) → runs_at pc s ≡ b → option_map (λ s. word_in s pc) (cond b (Some s) (find (runs_at pc) ss)) ≡ Some w → pc < MEMORY_END =
-      λ b. elim b as (λ v. runs_at pc s ≡ v → option_map (λ s. word_in s pc) (cond v (Some s) (find (runs_at pc) ss)) ≡ Some w → pc < MEMORY_END) [
-        | true ↦ λ at h. let end = ends s pc at in let top = (all 0 s (omega arith)).below in omega arith
-        | false ↦ λ at h. rest h
-      ] in
+    λ b. elim b as (λ v. runs_at pc s ≡ v → option_map (λ s. word_in s pc) (cond v (Some s) (find (runs_at pc) ss)) ≡ Some w → pc < MEMORY_END) [
+      | true ↦ λ at h. let end = ends s pc at in let top = (all 0 s (omega arith)).below in omega arith
+      | false ↦ λ at h. rest h
+    ] in
     found (runs_at pc s) refl e
 
 fetched_in : (image : Img) (pc w : ℕ) → IsLoadable image → fetch image pc ≡ Some w → (pc % 4 ≡ 0) × (pc < MEMORY_END)
 unfolding fetch
 fetched_in image pc w loadable e =
     let aligned : (b : Bool) → (pc % 4 == 0) ≡ b → cond b (option_map (λ s. word_in s pc) (find (runs_at pc) image.segments)) None ≡ Some w → (pc % 4 ≡ 0) × (pc < MEMORY_END) =
-      λ b. elim b as (λ v. (pc % 4 == 0) ≡ v → cond v (option_map (λ s. word_in s pc) (find (runs_at pc) image.segments)) None ≡ Some w → (pc % 4 ≡ 0) × (pc < MEMORY_END)) [
-        | true ↦ λ at h. (grind (arith, nat_tests), in_segments pc w image.segments loadable.segments h)
-        | false ↦ λ at h. absurd cc
-      ] in
+    λ b. elim b as (λ v. (pc % 4 == 0) ≡ v → cond v (option_map (λ s. word_in s pc) (find (runs_at pc) image.segments)) None ≡ Some w → (pc % 4 ≡ 0) × (pc < MEMORY_END)) [
+      | true ↦ λ at h. (grind (arith, nat_tests), in_segments pc w image.segments loadable.segments h)
+      | false ↦ λ at h. absurd cc
+    ] in
     aligned (pc % 4 == 0) refl e
 
 in_memory : (image : Img) (pc : ℕ) (i : Instr) → IsLoadable image → instr_of (fetch image pc) ≡ Some i → (pc % 4 ≡ 0) × (pc < MEMORY_END)
 in_memory image pc i loadable e =
     let by : (o : Option ℕ) → fetch image pc ≡ o → instr_of o ≡ Some i → (pc % 4 ≡ 0) × (pc < MEMORY_END) =
-      λ o. elim o as (λ v. fetch image pc ≡ v → instr_of v ≡ Some i → (pc % 4 ≡ 0) × (pc < MEMORY_END)) [ None ↦ λ at h. absurd cc | Some w ↦ λ at h. fetched_in image pc w loadable at ] in
+    λ o. elim o as (λ v. fetch image pc ≡ v → instr_of v ≡ Some i → (pc % 4 ≡ 0) × (pc < MEMORY_END)) [ None ↦ λ at h. absurd cc | Some w ↦ λ at h. fetched_in image pc w loadable at ] in
     by (fetch image pc) refl e
 
 pub entry_in : (image : Img) → IsLoadable image → image.entry < MEMORY_END
 entry_in image loadable =
     let by : (o : Option ℕ) → fetch image image.entry ≡ o → IsSome o → image.entry < MEMORY_END =
-      λ o. elim o as (λ v. fetch image image.entry ≡ v → IsSome v → image.entry < MEMORY_END) [ None ↦ λ at h. absurd (false≢true h) | Some w ↦ λ at h. (fetched_in image image.entry w loadable at).1 ] in
+    λ o. elim o as (λ v. fetch image image.entry ≡ v → IsSome v → image.entry < MEMORY_END) [ None ↦ λ at h. absurd (false≢true h) | Some w ↦ λ at h. (fetched_in image image.entry w loadable at).1 ] in
     by (fetch image image.entry) refl loadable.entry
 
 pub few_rows : (image : Img) → length (rom_rows image) ≤ 2 ^ 30
@@ -132,8 +132,8 @@ module _ (image : Img) (loadable : IsLoadable image) where
     ascending = pairs_below (λ k. row_at image (4 * k)) (λ (r : RomRow). r.pc) (λ k. 4 * k) row_here (λ j k lt. omega arith) words;
     each = each_below (λ k. row_at image (4 * k)) (IsRowOf image) words (λ k row lt e. one_row k row e);
     every = λ pc i e ne.
-      let memory = in_memory image pc i loadable e in
-      contains_below (λ k. row_at image (4 * k)) words (pc / 4) (rom_row pc i) (omega (arith, memory.1)) (row_for pc i e ne);
+        let memory = in_memory image pc i loadable e in
+        contains_below (λ k. row_at image (4 * k)) words (pc / 4) (rom_row pc i) (omega (arith, memory.1)) (row_for pc i e ne);
   }
 
 pub rows_in_memory : (image : Img) → IsLoadable image → All (λ (row : RomRow). row.pc < MEMORY_END) (rom_rows image)

@@ -9,4 +9,4 @@ pub starts_after : (segments : List Seg) (i j : ℕ) (d e : Seg) → AllPairs En
 starts_after segments i j d e ascending le lt =
     let same : (get_or segments i d).start ≡ (get_or segments i e).start = ap (λ (s : Seg). s.start) (get_or_default segments i d e (omega arith)) in
     ⊎_elim (λ less. let h = ascending i j e less lt in omega arith)
-      (λ from. let is : i ≡ j = omega arith in let at = ap (λ k. (get_or segments k e).start) is in omega arith) (cases_lt i j)
+    (λ from. let is : i ≡ j = omega arith in let at = ap (λ k. (get_or segments k e).start) is in omega arith) (cases_lt i j)

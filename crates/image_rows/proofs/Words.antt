@@ -34,9 +34,9 @@ zero_in k s none e =
     let h = runs s (4 * k) e in
     ⊎_elim
     (λ past.
-      let at : (i : ℕ) → byte_in s (4 * k + i) ≡ 0 = λ i. get_or_past s.bytes (4 * k + i - s.start) 0 (omega arith) in
-      let first : byte_in s (4 * k) ≡ 0 = get_or_past s.bytes (4 * k - s.start) 0 (omega arith) in
-      rw (first, at 1, at 2, at 3) refl)
+    let at : (i : ℕ) → byte_in s (4 * k + i) ≡ 0 = λ i. get_or_past s.bytes (4 * k + i - s.start) 0 (omega arith) in
+    let first : byte_in s (4 * k) ≡ 0 = get_or_past s.bytes (4 * k - s.start) 0 (omega arith) in
+    rw (first, at 1, at 2, at 3) refl)
     (λ before. absurd (omega (arith, h.1))) (none h.0)
 
 in_segments : (k : ℕ) (segments : List Seg) → ((j : ℕ) (d : Seg) → j < length segments → HasNoWord k (get_or segments j d)) → instr_of (option_map (λ s. word_in s (4 * k)) (find (runs_at (4 * k)) segments)) ≡ None
@@ -44,10 +44,10 @@ in_segments k [] none = refl
 in_segments k (s ∷ ss) none =
     let rest = in_segments k ss (λ j d lt. none (suc j) d (omega arith)) in
     let found : (b : Bool) → runs_at (4 * k) s ≡ b → instr_of (option_map (λ s. word_in s (4 * k)) (cond b (Some s) (find (runs_at (4 * k)) ss))) ≡ None =
-      λ b. elim b as (λ v. runs_at (4 * k) s ≡ v → instr_of (option_map (λ s. word_in s (4 * k)) (cond v (Some s) (find (runs_at (4 * k)) ss))) ≡ None) [
-        | true ↦ λ e. ap decoded (zero_in k s (none 0 s (omega arith)) e) ∙ no_instruction
-        | false ↦ λ e. rest
-      ] in
+    λ b. elim b as (λ v. runs_at (4 * k) s ≡ v → instr_of (option_map (λ s. word_in s (4 * k)) (cond v (Some s) (find (runs_at (4 * k)) ss))) ≡ None) [
+      | true ↦ λ e. ap decoded (zero_in k s (none 0 s (omega arith)) e) ∙ no_instruction
+      | false ↦ λ e. rest
+    ] in
     found (runs_at (4 * k) s) refl
 
 if_aligned : (b : Bool) (word : Option ℕ) → instr_of word ≡ None → instr_of (cond b word None) ≡ None
@@ -126,11 +126,11 @@ module _ (image : Img) (items : List Seg) (i below : ℕ) (h : IsPast image item
       same = h.same;
       ascending = h.ascending;
       past = λ j d in' exec. ⊎_elim (λ less. let p = h.past j d less exec in let b = below_first in omega arith)
-        (λ from. let e : end_word (get_or items j d) ≡ end_word s = ap end_word (at_i j d (omega arith)) in omega arith) (cases_lt j i);
+          (λ from. let e : end_word (get_or items j d) ≡ end_word s = ap end_word (at_i j d (omega arith)) in omega arith) (cases_lt j i);
       before = λ j d from in'.
-        let a : (get_or items i d).start + (get_or items i d).len ≤ (get_or items j d).start = h.ascending i j d (omega arith) in' in
-        let e : (get_or items i d).start + (get_or items i d).len ≡ s.start + s.len = ap (λ (x : Seg). x.start + x.len) (at_i i d refl) in
-        omega arith;
+          let a : (get_or items i d).start + (get_or items i d).len ≤ (get_or items j d).start = h.ascending i j d (omega arith) in' in
+          let e : (get_or items i d).start + (get_or items i d).len ≡ s.start + s.len = ap (λ (x : Seg). x.start + x.len) (at_i i d refl) in
+          omega arith;
     }
 
     pub past_other : s.exec ≡ false → IsPast image items (i + 1) below
@@ -138,6 +138,6 @@ module _ (image : Img) (items : List Seg) (i below : ℕ) (h : IsPast image item
       same = h.same;
       ascending = h.ascending;
       past = λ j d in' exec. ⊎_elim (λ less. h.past j d less exec)
-        (λ from. let e : (get_or items j d).exec ≡ s.exec = ap (λ (x : Seg). x.exec) (at_i j d (omega arith)) in absurd (false≢true (sym off ∙ sym e ∙ exec))) (cases_lt j i);
+          (λ from. let e : (get_or items j d).exec ≡ s.exec = ap (λ (x : Seg). x.exec) (at_i j d (omega arith)) in absurd (false≢true (sym off ∙ sym e ∙ exec))) (cases_lt j i);
       before = λ j d from in'. h.before j d (omega arith) in';
     }

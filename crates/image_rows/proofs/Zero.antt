@@ -35,10 +35,10 @@ in_segments k [] off a at = refl
 in_segments k (s ∷ ss) off a at =
     let rest = in_segments k ss (λ j d lt. off (suc j) d (omega arith)) a at in
     let found : (b : Bool) → has a s ≡ b → segment_byte (s ∷ ss) a ≡ 0 =
-      λ b. elim b as (λ v. has a s ≡ v → segment_byte (s ∷ ss) a ≡ 0) [
-        | true ↦ λ e. rw e (in_part k s a at (started s a e) (off 0 s (omega arith)))
-        | false ↦ λ e. rw e rest
-      ] in
+    λ b. elim b as (λ v. has a s ≡ v → segment_byte (s ∷ ss) a ≡ 0) [
+      | true ↦ λ e. rw e (in_part k s a at (started s a e) (off 0 s (omega arith)))
+      | false ↦ λ e. rw e rest
+    ] in
     found (has a s) refl
 
 in_input : (image : Img) (k : ℕ) → IsOffInput image k → (a : ℕ) → a / 8 ≡ k → INPUT_START ≤ a → window_byte image.input (a - INPUT_START) ≡ 0
@@ -53,10 +53,10 @@ zero_byte : (image : Img) (k : ℕ) → IsOffParts k image.segments → IsOffInp
 unfolding initial_byte
 zero_byte image k parts input a at =
     let chosen : (b : Bool) → (nat_le INPUT_START a && nat_lt a INPUT_END) ≡ b → cond b (window_byte image.input (a - INPUT_START)) (segment_byte image.segments a) ≡ 0 =
-      λ b. elim b as (λ v. (nat_le INPUT_START a && nat_lt a INPUT_END) ≡ v → cond v (window_byte image.input (a - INPUT_START)) (segment_byte image.segments a) ≡ 0) [
-        | true ↦ λ e. in_input image k input a at (in_window a e)
-        | false ↦ λ e. in_segments k image.segments parts a at
-      ] in
+    λ b. elim b as (λ v. (nat_le INPUT_START a && nat_lt a INPUT_END) ≡ v → cond v (window_byte image.input (a - INPUT_START)) (segment_byte image.segments a) ≡ 0) [
+      | true ↦ λ e. in_input image k input a at (in_window a e)
+      | false ↦ λ e. in_segments k image.segments parts a at
+    ] in
     chosen (nat_le INPUT_START a && nat_lt a INPUT_END) refl
 
 pub zero_word : (image : Img) (k : ℕ) → IsOffParts k image.segments → IsOffInput image k → initial_word image k ≡ 0
@@ -84,7 +84,7 @@ off_parts : (image : Img) (items : List Seg) (i below k : ℕ) (s : Seg) → IsP
 off_parts image items i below k s h is low high =
     at_segments image items k h.same
     (λ j d in'. ⊎_elim (λ before. let p = h.past j d before in inl (omega arith))
-      (λ from. let e : s.start ≡ (get_or items i s).start = ap (λ (x : Seg). x.start) is in let le = starts_after items i j s d h.ascending from in' in inr (omega arith)) (cases_lt j i))
+    (λ from. let e : s.start ≡ (get_or items i s).start = ap (λ (x : Seg). x.start) is in let le = starts_after items i j s d h.ascending from in' in inr (omega arith)) (cases_lt j i))
 
 -- before the input window, if the next segment is behind it
 pub zero_to_input : (image : Img) (items : List Seg) (i below : ℕ) (s : Seg) → IsPast image items i below → s ≡ get_or items i s → INPUT_START ≤ s.start → IsZeroBetween image below INPUT_INDEX

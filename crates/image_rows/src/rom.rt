@@ -19,12 +19,7 @@ fn row_at(image: &Image, pc: u64) -> Option<RomRow>
 }
 
 // Adds the rows of the words from one up to another.
-fn add_rows(
-    rows: &mut Vec<RomRow>,
-    image: &Image,
-    from: u64,
-    to: u64,
-) -> Result<(), AllocError>
+fn add_rows(rows: &mut Vec<RomRow>, image: &Image, from: u64, to: u64) -> Result<(), AllocError>
     requires most { to < 2 ^ 32 }
     requires found { HasAllRows image.now rows.old.items from }
     ensures { OnOk result (HasAllRows image.now rows.new.items (max from to)) }

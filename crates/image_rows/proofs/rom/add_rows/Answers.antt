@@ -11,13 +11,13 @@ loop-k-preserved c =
     let image = c.args.image.now in
     elim c.match-row_at.branch [
       | in-Some+in_ok-push w ↦ rw w.rows-is (record {
-          found = row_found image c.loop-k.rows.items _ c.loop-k.k (Some w.in-Some.row) h.found w.in-Some.ensures w.in_ok-push.ensures.items;
-          at_most = omega arith;
-        })
+        found = row_found image c.loop-k.rows.items _ c.loop-k.k (Some w.in-Some.row) h.found w.in-Some.ensures w.in_ok-push.ensures.items;
+        at_most = omega arith;
+      })
       | in_default w ↦ rw w.rows-is (record {
-          found = row_found image c.loop-k.rows.items c.loop-k.rows.items c.loop-k.k None h.found (sym w.in_default.is ∙ c.row_at.ensures) (sym (append-nil c.loop-k.rows.items));
-          at_most = omega arith;
-        })
+        found = row_found image c.loop-k.rows.items c.loop-k.rows.items c.loop-k.k None h.found (sym w.in_default.is ∙ c.row_at.ensures) (sym (append-nil c.loop-k.rows.items));
+        at_most = omega arith;
+      })
     ]
 
 pub returns : goal.returns

@@ -46,25 +46,25 @@ loop-segment-preserved c =
     } in
     elim c.if-segment.branch [
       | then-segment+in_ok-add_rows w ↦
-        let fits : length c.segment-item.result.bytes ≤ c.segment-item.result.len =
+          let fits : length c.segment-item.result.bytes ≤ c.segment-item.result.len =
           let P : Seg → Type 0 = λ x. length x.bytes ≤ x.len in subst P c.segment.view_is c.segment.invariant.bytes_fit in
-        let next = past_executable c.args.image.now items c.loop-segment.segment-index v.below past c.segment-item.result c.loop-segment-test.true c.segment-item.is fits in
-        rw w.rows-is (record {
-          below = max (first_word c.segment-item.result) (end_word c.segment-item.result);
-          found = rw (sym w.first_word.ensures, sym w.end_word.ensures.value) w.in_ok-add_rows.ensures;
-          most =
-            let P : Seg → Type 0 = λ x. x.start + x.len ≤ MEMORY_END in
-            let below : c.segment-item.result.start + c.segment-item.result.len ≤ MEMORY_END = subst P c.segment.view_is c.segment.invariant.below in
-            let Q : Seg → Type 0 = λ x. 0 < x.len in
-            let some : 0 < c.segment-item.result.len = subst Q c.segment.view_is c.segment.invariant.some in
-            omega arith;
-          past = next.past;
-          before = next.before;
-        })
+          let next = past_executable c.args.image.now items c.loop-segment.segment-index v.below past c.segment-item.result c.loop-segment-test.true c.segment-item.is fits in
+          rw w.rows-is (record {
+            below = max (first_word c.segment-item.result) (end_word c.segment-item.result);
+            found = rw (sym w.first_word.ensures, sym w.end_word.ensures.value) w.in_ok-add_rows.ensures;
+            most =
+                let P : Seg → Type 0 = λ x. x.start + x.len ≤ MEMORY_END in
+                let below : c.segment-item.result.start + c.segment-item.result.len ≤ MEMORY_END = subst P c.segment.view_is c.segment.invariant.below in
+                let Q : Seg → Type 0 = λ x. 0 < x.len in
+                let some : 0 < c.segment-item.result.len = subst Q c.segment.view_is c.segment.invariant.some in
+                omega arith;
+            past = next.past;
+            before = next.before;
+          })
       | else-segment w ↦
-        let no : c.segment-item.result.exec ≡ false = ap (λ (x : Seg). x.exec) (sym c.segment.view_is) ∙ w.if-segment.false in
-        let next = past_other c.args.image.now items c.loop-segment.segment-index v.below past c.segment-item.result c.loop-segment-test.true c.segment-item.is no in
-        rw w.rows-is (record { below = v.below; found = v.found; most = v.most; past = next.past; before = next.before })
+          let no : c.segment-item.result.exec ≡ false = ap (λ (x : Seg). x.exec) (sym c.segment.view_is) ∙ w.if-segment.false in
+          let next = past_other c.args.image.now items c.loop-segment.segment-index v.below past c.segment-item.result c.loop-segment-test.true c.segment-item.is no in
+          rw w.rows-is (record { below = v.below; found = v.found; most = v.most; past = next.past; before = next.before })
     ]
 
 pub returns : goal.returns
@@ -82,7 +82,7 @@ returns c =
       value = e;
       few = let P : List RomRow → Type 0 = λ l. length l ≤ 2 ^ 30 in subst P (sym e) (few_rows c.args.image.now);
       in_memory =
-        let P : List RomRow → Type 0 = λ l. All (λ (row : RomRow). row.pc < MEMORY_END) l in
-        let Q : Img → Type 0 = IsLoadable in
-        subst P (sym e) (rows_in_memory c.args.image.now (subst Q c.image.view_is c.image.invariant.loadable));
+          let P : List RomRow → Type 0 = λ l. All (λ (row : RomRow). row.pc < MEMORY_END) l in
+          let Q : Img → Type 0 = IsLoadable in
+          subst P (sym e) (rows_in_memory c.args.image.now (subst Q c.image.view_is c.image.invariant.loadable));
     }

@@ -10,16 +10,16 @@ loop-number-preserved c =
     let image = c.args.image.now in
     elim c.if-value-ne0.branch [
       | then-value-ne0+in_ok-push w ↦ rw w.self-is (record {
-          found = doubleword_found image c.loop-number.self.doublewords.items _ c.loop-number.number c.word-value.result h.found c.word-value.ensures w.if-value-ne0.true w.in_ok-push.ensures.items;
-          below = h.below;
-          at_most = omega arith;
-        })
+        found = doubleword_found image c.loop-number.self.doublewords.items _ c.loop-number.number c.word-value.result h.found c.word-value.ensures w.if-value-ne0.true w.in_ok-push.ensures.items;
+        below = h.below;
+        at_most = omega arith;
+      })
       | else-value-ne0 w ↦ rw w.self-is (record {
-          found = doublewords_same image c.loop-number.self.doublewords.items c.loop-number.number (c.loop-number.number + 1) (omega arith) h.found
+        found = doublewords_same image c.loop-number.self.doublewords.items c.loop-number.number (c.loop-number.number + 1) (omega arith) h.found
             (λ k low high. let e : k ≡ c.loop-number.number = omega arith in rw e (sym c.word-value.ensures ∙ w.if-value-ne0.false));
-          below = h.below;
-          at_most = omega arith;
-        })
+        below = h.below;
+        at_most = omega arith;
+      })
     ]
 
 pub returns : goal.returns
