@@ -1,5 +1,5 @@
 -- A row of Rom as the code keeps it.
-use Rattle.step_rows.specs.Rom.{RomRow}
+use Rattle.step_rows.specs.declared.rom_row.RomRow.{RomRow}
 use Rattle.rom_row.specs.declared.telling.Told.{Told}
 
 -- all columns but pc
