@@ -10,7 +10,7 @@ use Rattle.rv_word.specs.Ranges.{InRange}
 use Rattle.rv_model.specs.Image.{Img, fetch}
 use Rattle.rv_model.specs.Op.{value_of, bits_of}
 use Rattle.rv_model.specs.Align.{width, aligned}
-use Rattle.rv_model.specs.State.{State, Answer, Next, Halt, Fault, step, executed, executed_fetch, executed_word, load, store, at_address, jump, next, next_with_reg, next_with_store, with_reg, wrapped, reg, is_taken}
+use Rattle.rv_model.specs.State.{State, Answer, Next, Halt, Fault, step, executed, executed_fetch, executed_word, load, store, at_address, jump, next, next_with_reg, next_with_store, with_reg, wrapped, reg, operand, is_taken}
 use Rattle.rv_model.specs.Run.{state_at, step_at, moved}
 use Rattle.rv_model.specs.declared.answer.RunFault.TheVariants.{Misaligned, BadAddress, BadTarget, BadCall}
 use Rattle.min_trace.specs.Record.{instr_of, instr_at}
@@ -29,8 +29,8 @@ completed (Jalr rd rs1 imm) s = jumped s (with_reg s.x rd (wrapped (s.pc + 4))) 
 completed (Branch cond rs1 rs2 imm) s = if is_taken cond (reg s rs1) (reg s rs2) then jumped s s.x (wrapped (s.pc + bits_of imm)) else next s
 completed (Load kind rd rs1 imm) s = let address = wrapped (reg s rs1 + bits_of imm) in next_with_reg s rd (aligned kind (address % 8) (s.word (address / 8)) 0)
 completed (Store kind rs1 rs2 imm) s = next_with_store s kind (wrapped (reg s rs1 + bits_of imm)) (reg s rs2)
-completed (OpImm op rd rs1 imm) s = next_with_reg s rd (value_of op (reg s rs1) (bits_of imm))
-completed (Op op rd rs1 rs2) s = next_with_reg s rd (value_of op (reg s rs1) (reg s rs2))
+completed (OpImm op rd rs1 imm uw) s = next_with_reg s rd (value_of op (operand uw (reg s rs1)) (bits_of imm))
+completed (Op op rd rs1 rs2 uw) s = next_with_reg s rd (value_of op (operand uw (reg s rs1)) (reg s rs2))
 completed Fence s = next s
 completed Ecall s = Halt
 completed Ebreak s = Halt
@@ -63,8 +63,8 @@ completes (Jalr rd rs1 imm) s h = jumps s _ _ h
 completes (Branch cond rs1 rs2 imm) s h = branches s _ _ h
 completes (Load kind rd rs1 imm) s h = addresses s kind _ _ h
 completes (Store kind rs1 rs2 imm) s h = addresses s kind _ _ h
-completes (OpImm op rd rs1 imm) s h = refl
-completes (Op op rd rs1 rs2) s h = refl
+completes (OpImm op rd rs1 imm uw) s h = refl
+completes (Op op rd rs1 rs2 uw) s h = refl
 completes Fence s h = refl
 completes Ecall s h = halts s h
 completes Ebreak s h = absurd h
@@ -135,8 +135,8 @@ kept (Load kind rd rs1 imm) s r =
 kept (Store kind rs1 rs2 imm) s r =
     let address : ℕ = wrapped (reg s rs1 + bits_of imm) in
     kept_at_address s kind address (next_with_store s kind address (reg s rs2)) r r
-kept (OpImm op rd rs1 imm) s r = kept_by_write s.x rd _ r
-kept (Op op rd rs1 rs2) s r = kept_by_write s.x rd _ r
+kept (OpImm op rd rs1 imm uw) s r = kept_by_write s.x rd _ r
+kept (Op op rd rs1 rs2 uw) s r = kept_by_write s.x rd _ r
 kept Fence s r = r
 kept Ecall s r = kept_by_call s r
 kept Ebreak s r = r

@@ -1,4 +1,4 @@
--- What the fields of a record have to do with each other (RISC-V Unprivileged ISA, "RV32I", "RV64I" and "M").
+-- What the fields of a record have to do with each other (RISC-V Unprivileged ISA, "RV32I", "RV64I", "M" and "Zba").
 use Rattle.std.specs.Prelude.{◌≡◌, ◌==◌, ℕ, ◌+◌, ◌*◌, ◌/◌, ◌%◌, ◌^◌, ◌<◌, Bool, not, Option, Some, None, slice_index, if◌then◌else◌}
 use Rattle.std.specs.Option.{option_map_or}
 use Rattle.rv_word.specs.declared.instr.Cond.{Cond}
@@ -8,14 +8,18 @@ use Rattle.rv_word.specs.declared.instr.Instr.{Instr}
 use Rattle.rv_word.specs.declared.instr.Instr.TheVariants.{Jal, Jalr, Branch, Load, Store, Ecall, Ebreak}
 use Rattle.rv_model.specs.Op.{value_of, flag_of, bits_of}
 use Rattle.rv_model.specs.Align.{width, aligned}
-use Rattle.rv_model.specs.State.{State, wrapped}
-use Rattle.min_trace.specs.Operands.{rd_of}
+use Rattle.rv_model.specs.State.{State, wrapped, operand}
+use Rattle.min_trace.specs.Operands.{rd_of, uw_of}
 use Rattle.min_trace.specs.declared.record.MemAct.{MemAct}
 use Rattle.min_trace.specs.declared.record.StepRecord.{StepRecord}
 
--- c and flag are what the operation makes of a and b
+-- the operation's first operand: rs1's value, or its low 32 bits alone
+abbrev pub first_of : StepRecord → ℕ
+first_of r = operand (uw_of r.instr) r.a
+
+-- c and flag are what the operation makes of its operands
 abbrev pub Computes : StepRecord → Type 0
-Computes r = (r.c ≡ value_of r.op r.a r.b) × (r.flag ≡ flag_of r.op r.a r.b)
+Computes r = (r.c ≡ value_of r.op (first_of r) r.b) × (r.flag ≡ flag_of r.op (first_of r) r.b)
 
 -- pc, and the values of the two registers that are read
 abbrev pub Reads : StepRecord → State → Type 0

@@ -3,3 +3,4 @@ pub mod Record
 pub mod Chunk
 pub mod Found
 pub mod Laws
+pub mod After

@@ -1,5 +1,5 @@
--- The registers that an instruction names, and its operation (RISC-V Unprivileged ISA, "RV32I", "RV64I" and "M").
-use Rattle.std.specs.Prelude.{ℕ, ◌+◌, Option, Some, None}
+-- The registers that an instruction names, and its operation (RISC-V Unprivileged ISA, "RV32I", "RV64I", "M" and "Zba").
+use Rattle.std.specs.Prelude.{ℕ, ◌+◌, Bool, false, Option, Some, None}
 use Rattle.rv_word.specs.declared.instr.Cond.{Cond}
 use Rattle.rv_word.specs.declared.instr.Cond.TheVariants as conds
 use Rattle.rv_word.specs.declared.instr.OpNo.{OpNo}
@@ -15,15 +15,15 @@ rs1_of (Jalr rd rs1 imm) = rs1
 rs1_of (Branch cond rs1 rs2 imm) = rs1
 rs1_of (Load kind rd rs1 imm) = rs1
 rs1_of (Store kind rs1 rs2 imm) = rs1
-rs1_of (OpImm op rd rs1 imm) = rs1
-rs1_of (Op op rd rs1 rs2) = rs1
+rs1_of (OpImm op rd rs1 imm uw) = rs1
+rs1_of (Op op rd rs1 rs2 uw) = rs1
 rs1_of Ecall = 17
 rs1_of _ = 0
 
 abbrev pub rs2_of : Instr → ℕ
 rs2_of (Branch cond rs1 rs2 imm) = rs2
 rs2_of (Store kind rs1 rs2 imm) = rs2
-rs2_of (Op op rd rs1 rs2) = rs2
+rs2_of (Op op rd rs1 rs2 uw) = rs2
 rs2_of _ = 0
 
 -- the register that is written; x0 stands where there is none
@@ -33,8 +33,8 @@ rd_of (Auipc rd imm) = rd
 rd_of (Jal rd imm) = rd
 rd_of (Jalr rd rs1 imm) = rd
 rd_of (Load kind rd rs1 imm) = rd
-rd_of (OpImm op rd rs1 imm) = rd
-rd_of (Op op rd rs1 rs2) = rd
+rd_of (OpImm op rd rs1 imm uw) = rd
+rd_of (Op op rd rs1 rs2 uw) = rd
 rd_of _ = 0
 
 -- the comparison whose flag, or its opposite, takes a branch
@@ -49,9 +49,15 @@ compared_by conds.Geu = ops.Ltu
 -- the operation of a step
 abbrev pub op_of : Instr → OpNo
 op_of (Branch cond rs1 rs2 imm) = compared_by cond
-op_of (OpImm op rd rs1 imm) = op
-op_of (Op op rd rs1 rs2) = op
+op_of (OpImm op rd rs1 imm uw) = op
+op_of (Op op rd rs1 rs2 uw) = op
 op_of _ = ops.Add
+
+-- whether the operation's first operand is the low 32 bits of rs1's value alone
+abbrev pub uw_of : Instr → Bool
+uw_of (OpImm op rd rs1 imm uw) = uw
+uw_of (Op op rd rs1 rs2 uw) = uw
+uw_of _ = false
 
 -- the operation's second operand where it is a constant of the instruction at pc; elsewhere it is rs2's value
 abbrev pub constant_of : Instr → ℕ → Option ℕ
@@ -62,8 +68,8 @@ constant_of (Jalr rd rs1 imm) pc = Some (bits_of imm)
 constant_of (Branch cond rs1 rs2 imm) pc = None
 constant_of (Load kind rd rs1 imm) pc = Some (bits_of imm)
 constant_of (Store kind rs1 rs2 imm) pc = Some (bits_of imm)
-constant_of (OpImm op rd rs1 imm) pc = Some (bits_of imm)
-constant_of (Op op rd rs1 rs2) pc = None
+constant_of (OpImm op rd rs1 imm uw) pc = Some (bits_of imm)
+constant_of (Op op rd rs1 rs2 uw) pc = None
 constant_of Fence pc = Some 0
 constant_of Ecall pc = Some 0
 constant_of Ebreak pc = Some 0

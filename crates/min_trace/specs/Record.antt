@@ -7,12 +7,12 @@ use Rattle.rv_word.specs.Is.{decoded}
 use Rattle.rv_model.specs.Image.{Img, fetch}
 use Rattle.rv_model.specs.Op.{value_of, flag_of}
 use Rattle.rv_model.specs.Align.{aligned}
-use Rattle.rv_model.specs.State.{Answer, Next, Halt, Fault}
+use Rattle.rv_model.specs.State.{Answer, Next, Halt, Fault, operand}
 use Rattle.rv_model.specs.Cpu.{cpu_of, access}
 use Rattle.rv_model.specs.Run.{state_at, step_at}
 use Rattle.rv_model.specs.declared.access.Access.{Access}
 use Rattle.rv_model.specs.declared.cpu.Cpu.{Cpu}
-use Rattle.min_trace.specs.Operands.{rs1_of, rs2_of, rd_of, op_of, constant_of}
+use Rattle.min_trace.specs.Operands.{rs1_of, rs2_of, rd_of, op_of, uw_of, constant_of}
 use Rattle.min_trace.specs.declared.record.MemAct.{MemAct}
 use Rattle.min_trace.specs.declared.record.StepRecord.{StepRecord}
 
@@ -54,7 +54,10 @@ onward (Next t) = Some t.pc
 onward Halt = None
 onward (Fault f) = None
 
--- the operation's second operand
+-- the operation's first operand, and its second
+abbrev pub first : Instr → Cpu → ℕ
+first i before = operand (uw_of i) (slice_index before.x (rs1_of i))
+
 abbrev pub second : Instr → Cpu → ℕ
 second i before = unwrap_or (constant_of i before.pc) (slice_index before.x (rs2_of i))
 
@@ -70,8 +73,8 @@ record_of number i before touched after target = record {
   s = slice_index before.x (rs2_of i);
   op = op_of i;
   b = second i before;
-  c = value_of (op_of i) (slice_index before.x (rs1_of i)) (second i before);
-  flag = flag_of (op_of i) (slice_index before.x (rs1_of i)) (second i before);
+  c = value_of (op_of i) (first i before) (second i before);
+  flag = flag_of (op_of i) (first i before) (second i before);
   mem = touched;
   rd = written_to (rd_of i) after;
   next = target;

@@ -1,7 +1,7 @@
 //! The operation that each instruction makes, and the registers that it names. Each step reads rs1 and rs2 and makes
 //! exactly one operation on rs1's value and a second operand.
 ghost use Rattle.std.specs.Prelude.{◌≡◌, ◌+◌, ◌^◌};
-ghost use Rattle.min_trace.specs.Operands.{rs1_of, rs2_of, rd_of, op_of, compared_by, constant_of};
+ghost use Rattle.min_trace.specs.Operands.{rs1_of, rs2_of, rd_of, op_of, uw_of, compared_by, constant_of};
 
 use rv_word::{Cond, Instr, OpNo, Reg};
 
@@ -65,6 +65,16 @@ pub fn op_of(instr: &Instr) -> OpNo
         Instr::Branch { cond, .. } => compared_by(*cond),
         Instr::OpImm { op, .. } | Instr::Op { op, .. } => *op,
         _ => OpNo::Add,
+    }
+}
+
+/// Whether the operation's first operand is the low 32 bits of rs1's value, and not all of it.
+pub fn uw_of(instr: &Instr) -> bool
+    ensures { result ≡ uw_of instr.now }
+{
+    match instr {
+        Instr::OpImm { uw, .. } | Instr::Op { uw, .. } => *uw,
+        _ => false,
     }
 }
 

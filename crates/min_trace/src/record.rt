@@ -2,8 +2,8 @@
 ghost use Rattle.std.specs.Prelude.{◌≡◌, slice_index};
 ghost use Rattle.min_trace.specs.Record.{written_to, record_of};
 
-use crate::{constant_of, op_of, rd_of, rs1_of, rs2_of};
-use rv_model::{Cpu, op};
+use crate::{constant_of, op_of, rd_of, rs1_of, rs2_of, uw_of};
+use rv_model::{Cpu, op, operand};
 use rv_word::{Instr, Kind, OpNo, Reg};
 
 /// The access of a load or a store to memory.
@@ -33,7 +33,7 @@ pub struct StepRecord {
     /// rs1's and rs2's values before the step.
     pub a: u64,
     pub s: u64,
-    /// The operation `op(a, b) = (c, flag)`.
+    /// The operation `op(first, b) = (c, flag)`, where first is `a`, or the low 32 bits of `a` where the instruction has uw.
     pub op: OpNo,
     pub b: u64,
     pub c: u64,
@@ -77,7 +77,7 @@ pub fn record_of(
     let (a, s) = (register(before, rs1), register(before, rs2));
     let operation = op_of(instr);
     let b = constant_of(instr, before.pc).unwrap_or(s);
-    let (c, flag) = op(operation, a, b);
+    let (c, flag) = op(operation, operand(uw_of(instr), a), b);
     StepRecord {
         step,
         pc: before.pc,

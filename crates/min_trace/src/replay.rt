@@ -1,11 +1,11 @@
 //! A chunk's steps, one after the other.
 ghost use Rattle.std.specs.Prelude.{◌≡◌, ◌+◌, ◌-◌, ◌*◌, ◌<◌, ◌≤◌, ◌^◌, ◌∷◌, [], MatchOption};
 ghost use Rattle.std.specs.Option.{IfNone};
-ghost use Rattle.min_trace.specs.Chunk.{IsChunk};
+ghost use Rattle.min_trace.specs.Chunk.{IsChunk, first_step};
 ghost use Rattle.min_trace.specs.Record.{records_between};
 
 use crate::walk::walk;
-use crate::{Chunk, StepRecord};
+use crate::{Chunk, STEPS_PER_CHUNK, StepRecord};
 use rv_model::{Cpu, Image};
 use std::marker::Model;
 
@@ -35,7 +35,7 @@ impl<'a> Replay<'a> {
     /// The replay of a chunk of the image's run, from its first step on.
     pub fn new(image: &'a Image, chunk: &'a Chunk) -> Self
         requires { IsChunk image.now chunk.now }
-        ensures { result ≡ records_between image.now (1024 * chunk.now.number) chunk.now.steps }
+        ensures { result ≡ records_between image.now (first_step chunk.now.number) chunk.now.steps }
     {
         Replay {
             image,
@@ -55,7 +55,7 @@ impl<'a> Replay<'a> {
         if self.taken == chunk.steps {
             return None;
         }
-        let step = 1024 * chunk.number + self.taken;
+        let step = STEPS_PER_CHUNK * chunk.number + self.taken;
         let (made, at) = walk(self.image, &chunk.olds, self.at, step, &mut self.cpu);
         self.at = at;
         self.taken += 1;

@@ -8,7 +8,7 @@ ghost use Rattle.min_trace.specs.Chunk.{IsStep};
 ghost use Rattle.min_trace.specs.Found.{old_found, next_told, IsFront};
 
 use crate::record::record_of;
-use crate::{MemAct, StepRecord};
+use crate::{MemAct, STEPS_PER_CHUNK, StepRecord};
 use rv_model::{Access, Cpu, Image, StepAnswer};
 use rv_word::{Instr, decode};
 
@@ -84,7 +84,7 @@ pub fn walk(image: &Image, olds: &[u64], at: usize, step: u32, cpu: &mut Cpu) ->
     requires cpu { cpu.old ≡ cpu_at image.now step }
     requires good { IsStep (step_at image.now step) }
     requires olds { IsFront (old_at image.now step) (drop at olds.now) }
-    requires low { at ≤ 1024 }
+    requires low { at ≤ STEPS_PER_CHUNK }
     ensures made { result.0 ≡ record_at image.now step }
     ensures cpu { cpu.new ≡ cpu_at image.now (step + 1) }
     ensures used { result.1 ≡ at + length (old_at image.now step) }

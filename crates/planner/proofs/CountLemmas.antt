@@ -1,37 +1,46 @@
 -- Counts of steps.
-use Rattle.std.proofs.Common.{◌≡◌, ◌+◌, ◌≤◌, ℕ, Bool, cond, List, [], ◌∷◌, length, refl, ap, sym, ◌∙◌, arith}
-use Rattle.std.specs.List.{count_by}
-use Rattle.std.specs.Option.{is_some}
+use Rattle.std.proofs.Common.{◌≡◌, ◌+◌, ◌≤◌, ℕ, Bool, true, false, cond, suc, List, [], ◌∷◌, length, refl, ap, sym, ◌∙◌, arith}
+use mir.Val.{bool_byte}
+use Rattle.std.specs.List.{filter}
 use Rattle.std.proofs.lemmas.List.FromFn.{length-map-range_with_len}
-use Rattle.std.proofs.lemmas.List.Sums.{sum_by-cons, count_by-le-length}
-use Rattle.zk_layout.specs.declared.air.Air.TheVariants.{Binary, Shift, Arith}
+use Rattle.std.proofs.lemmas.List.Sums.{length-filter, count_by-le-length}
+use Rattle.zk_layout.specs.declared.air.Air.TheVariants.{Main, Binary, Shift, Arith, Align}
 use Rattle.rv_model.specs.Image.{Img}
 use Rattle.min_trace.specs.Record.{record_at, records_between}
 use Rattle.min_trace.specs.declared.record.StepRecord.{StepRecord}
 use Rattle.planner.specs.declared.counts.Counts.{Counts}
-use Rattle.planner.specs.Rows.{IsOfChunk}
-use Rattle.planner.specs.Count.{is_of, counted, sum_of}
+use Rattle.planner.specs.Rows.{has_row, counted, sum_of, IsOfChunk}
 
 pub same_counts : (s b h m l t c i n k : ℕ) → s ≡ t → b ≡ c → h ≡ i → m ≡ n → l ≡ k
     → ◌≡◌ {A = Counts} (record { steps = s; binary = b; shift = h; arith = m; align = l }) (record { steps = t; binary = c; shift = i; arith = n; align = k })
 same_counts s b h m l t c i n k p q r u v = rw (p, q, r, u, v) refl
 
-count_cons : {X : Type 0} (p : X → Bool) (x : X) (xs : List X) (n : ℕ) → n + count_by p (x ∷ []) + count_by p xs ≡ n + count_by p (x ∷ xs)
-count_cons p x xs n = omega (arith, sum_by-cons (λ y. cond (p y) 1 0) x xs, sum_by-cons (λ y. cond (p y) 1 0) x [])
+count_cons : {X : Type 0} (p : X → Bool) (x : X) (xs : List X) (n : ℕ) → n + length (filter p (x ∷ [])) + length (filter p xs) ≡ n + length (filter p (x ∷ xs))
+count_cons p x xs n = elim (p x) as (λ b. n + length (cond b (x ∷ []) []) + length (filter p xs) ≡ n + length (cond b (x ∷ filter p xs) (filter p xs))) [
+  | true ↦ let one : length (x ∷ filter p xs) ≡ suc (length (filter p xs)) = refl in omega arith
+  | false ↦ omega arith
+]
+
+-- whether a step has a row, as a number
+pub one_row : {X : Type 0} (p : X → Bool) (x : X) (b : Bool) (n : ℕ) → n ≡ bool_byte b → b ≡ p x → n ≡ length (filter p (x ∷ []))
+one_row p x b n e h = e ∙ elim (p x) as (λ t. b ≡ t → bool_byte b ≡ length (cond t (x ∷ []) [])) [ true ↦ λ t. rw t refl | false ↦ λ t. rw t refl ] h
 
 -- one more step
 pub counted_more : (a : Counts) (r : StepRecord) (rs : List StepRecord) → sum_of (sum_of a (counted (r ∷ []))) (counted rs) ≡ sum_of a (counted (r ∷ rs))
 unfolding counted
-counted_more a r rs = same_counts _ _ _ _ _ _ _ _ _ _ (omega arith) (count_cons _ r rs a.binary) (count_cons _ r rs a.shift) (count_cons _ r rs a.arith) (count_cons _ r rs a.align)
+counted_more a r rs = same_counts _ _ _ _ _ _ _ _ _ _ (count_cons (has_row Main) r rs a.steps) (count_cons (has_row Binary) r rs a.binary) (count_cons (has_row Shift) r rs a.shift) (count_cons (has_row Arith) r rs a.arith) (count_cons (has_row Align) r rs a.align)
+
+few_of : {X : Type 0} (p : X → Bool) (xs : List X) → length (filter p xs) ≤ length xs
+few_of p xs = omega (arith, length-filter p xs, count_by-le-length p xs)
 
 pub counted_low : (rs : List StepRecord) → length rs ≤ 1024 → IsOfChunk (counted rs)
 unfolding counted
 counted_low rs h = record {
-  main = h;
-  sums = omega (arith, count_by-le-length (is_of Binary) rs);
-  shifts = omega (arith, count_by-le-length (is_of Shift) rs);
-  products = omega (arith, count_by-le-length (is_of Arith) rs);
-  accesses = omega (arith, count_by-le-length (λ (r : StepRecord). is_some r.mem) rs);
+  main = omega (arith, few_of (has_row Main) rs);
+  sums = omega (arith, few_of (has_row Binary) rs);
+  shifts = omega (arith, few_of (has_row Shift) rs);
+  products = omega (arith, few_of (has_row Arith) rs);
+  accesses = omega (arith, few_of (has_row Align) rs);
 }
 
 part_low : (a b all : Counts) → IsOfChunk all → sum_of a b ≡ all → IsOfChunk a

@@ -4,3 +4,4 @@ pub mod Whole
 pub mod Once
 pub mod Keeping
 pub mod CountLemmas
+pub mod Handed

@@ -117,7 +117,7 @@ round_up t r pos e =
     let is : t + (r - 1) ≡ t / r * r + (r - 1) = omega (arith, mod-add-div' t r) in
     rw is (div-mul-add (t / r) r (r - 1) (omega arith))
 
-round_up_more : (t r : ℕ) → 0 < r → 0 < t % r → (t + (r - 1)) / r ≡ t / r + 1
+pub round_up_more : (t r : ℕ) → 0 < r → 0 < t % r → (t + (r - 1)) / r ≡ t / r + 1
 round_up_more t r pos e =
     let is : t + (r - 1) ≡ (t / r + 1) * r + (t % r - 1) = omega (arith, mod-add-div' t r) in
     rw is (div-mul-add (t / r + 1) r (t % r - 1) (omega (arith, mod-lt t pos)))

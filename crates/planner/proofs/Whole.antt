@@ -48,7 +48,7 @@ fits : (i t r : ℕ) → 0 < r → i < t / r → i * r + r ≤ t
 fits i t r pos h = let low : t / r * r ≤ t = div-mul-le_self t r in grind arith
 
 -- a whole job stays as it is
-job_more : (air : Air) (cs ds : List Counts) (i : ℕ) → i < whole air cs → job_of air (cs ++ ds) i ≡ job_of air cs i
+pub job_more : (air : Air) (cs ds : List Counts) (i : ℕ) → i < whole air cs → job_of air (cs ++ ds) i ≡ job_of air cs i
 job_more a cs ds i h =
     let few : i * rows_per a + rows_per a ≤ 0 + total a cs = omega (arith, fits i (total a cs) (rows_per a) (positive a) h) in
     ap (λ ps. record { air = a; instance = i; parts = ps }) (parts_walked a (cs ++ ds) i ∙ parts_more a (i * rows_per a) (i * rows_per a + rows_per a) 0 0 cs ds few ∙ sym (parts_walked a cs i))

@@ -1,5 +1,5 @@
 -- The jobs of a list of counts, the k-th of which are those of chunk k.
-use Rattle.std.specs.Prelude.{ℕ, ◌+◌, ◌-◌, ◌*◌, ◌/◌, ◌%◌, ◌==◌, min, max, nat_lt, List, [], ◌∷◌, ◌++◌, length, if◌then◌else◌, sum_by, map, take, drop, slice_index_or, filter}
+use Rattle.std.specs.Prelude.{◌≡◌, ℕ, ◌+◌, ◌-◌, ◌*◌, ◌/◌, ◌%◌, ◌==◌, ◌<◌, min, max, nat_lt, List, [], ◌∷◌, ◌++◌, length, if◌then◌else◌, sum_by, map, take, drop, slice_index_or, filter}
 use Rattle.std.specs.List.{flat_map, range_with_len}
 use Rattle.zk_layout.specs.Air.{air_number, rows_per}
 use Rattle.zk_layout.specs.declared.air.Air.{Air}
@@ -39,9 +39,16 @@ whole air counts = total air counts / rows_per air
 abbrev pub jobs : Air → List Counts → ℕ → ℕ → List Job
 jobs air counts first n = map (job_of air counts) (range_with_len first n)
 
--- all jobs of an air, the last of which may have fewer rows
+-- how many instances so many rows are, the last of which may have fewer rows
+abbrev pub instances : Air → ℕ → ℕ
+instances air rows = (rows + (rows_per air - 1)) / rows_per air
+
+-- all jobs of an air, and how many they are
+abbrev pub job_count : Air → List Counts → ℕ
+job_count air counts = instances air (total air counts)
+
 abbrev pub all_jobs : Air → List Counts → List Job
-all_jobs air counts = jobs air counts 0 ((total air counts + (rows_per air - 1)) / rows_per air)
+all_jobs air counts = jobs air counts 0 (job_count air counts)
 
 -- the airs that are cut into jobs
 abbrev pub airs : List Air
@@ -62,6 +69,20 @@ rest air counts = if total air counts % rows_per air == 0 then [] else job_of ai
 -- the jobs that aren't whole and aren't empty
 unfoldable pub finished : List Counts → List Job
 finished counts = flat_map (λ air. rest air counts) airs
+
+-- a part of these chunks takes something of one of them
+pub record IsPartIn (counts : List Counts) (p : Part) : Type 0 where
+  pub there : p.chunk < length counts
+  pub some : 0 < p.take
+
+-- a job of these chunks, and one that they make whole
+pub record IsJobIn (counts : List Counts) (j : Job) : Type 0 where
+  pub named : j ≡ job_of j.air counts j.instance
+  pub some : j.instance < job_count j.air counts
+
+pub record IsWholeIn (counts : List Counts) (j : Job) : Type 0 where
+  pub named : j ≡ job_of j.air counts j.instance
+  pub whole : j.instance < whole j.air counts
 
 -- what adding these counts in turn hands out, after the counts before them
 abbrev pub handed : List Counts → List Counts → List Job

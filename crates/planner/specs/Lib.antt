@@ -1,4 +1,3 @@
 pub mod Rows
 pub mod Jobs
 pub mod Track
-pub mod Count

@@ -3,6 +3,7 @@ use Rattle.std.specs.Prelude.{◌≡◌, ℕ, ◌+◌, ◌-◌, ◌*◌, ◌/◌
 use Rattle.zk_layout.specs.Air.{rows_per}
 use Rattle.zk_layout.specs.declared.air.Air.{Air}
 use Rattle.zk_layout.specs.declared.air.Air.TheVariants.{Main, Mem, Binary, Shift, Arith, Align, Out}
+use Rattle.min_trace.specs.declared.chunk.TheConstants.{STEPS_PER_CHUNK, MOST_CHUNKS}
 use Rattle.planner.specs.declared.counts.Counts.{Counts}
 use Rattle.planner.specs.declared.job.Job.{Job}
 use Rattle.planner.specs.declared.track.Track.{Track}
@@ -17,7 +18,7 @@ pub record IsBefore (air : Air) (counts : List Counts) (i k first : ℕ) : Type 
 
 pub record IsTrack (air : Air) (counts : List Counts) (t : Track) : Type 0 where
   pub exact : t.rows ≡ total air counts
-  pub most : t.rows ≤ 1024 * length counts
+  pub most : t.rows ≤ STEPS_PER_CHUNK * length counts
   pub open_job : IsBefore air counts (t.rows / rows_per air) t.chunk t.before
 
 unfoldable pub track_in : Air → Tracks → Track
@@ -32,7 +33,7 @@ track_in Out t = record { rows = 0; chunk = 0; before = 0 }
 -- what a plan keeps
 pub record IsKept (counts : List Counts) (t : Tracks) : Type 0 where
   pub each : (air : Air) → IsTrack air counts (track_in air t)
-  pub few : length counts ≤ 2 ^ 22
+  pub few : length counts ≤ MOST_CHUNKS
 
 -- a track that one more chunk led from one to the other, the new chunk among the counts
 pub record IsNext (air : Air) (counts : List Counts) (a b : Track) : Type 0 where

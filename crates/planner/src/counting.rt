@@ -1,30 +1,40 @@
 //! The rows of a chunk.
 ghost use Rattle.std.specs.Prelude.{◌≡◌, ◌+◌, ◌*◌, ◌≤◌, ◌∷◌, []};
-ghost use Rattle.min_trace.specs.Chunk.{IsChunk};
+ghost use Rattle.min_trace.specs.Chunk.{IsChunk, first_step};
 ghost use Rattle.min_trace.specs.Record.{records_between};
-ghost use Rattle.planner.specs.Rows.{IsOfChunk};
-ghost use Rattle.planner.specs.Count.{is_of, counted, sum_of};
+ghost use Rattle.planner.specs.Rows.{has_row, counted, sum_of, IsOfChunk};
 
 use crate::Counts;
 use min_trace::{Chunk, Replay, StepRecord};
 use rv_model::Image;
 use zk_layout::Air;
 
-fn is_of(air: Air, step: &StepRecord) -> bool
-    ensures { result ≡ is_of air step.now }
+/// Whether the step has a row of the air: each has one of Main and one of the air of its operation, and a load and a store
+/// one of Align. The rows of Mem and Out aren't those of single steps.
+#[inline(always)]
+#[tactic(auto, unfolding(crate::specs::Rows::has_row))]
+pub fn has_row(air: Air, step: &StepRecord) -> bool
+    ensures { result ≡ has_row air step.now }
 {
-    Air::of_operation(step.op).number() == air.number()
+    match air {
+        Air::Main => true,
+        Air::Binary | Air::Shift | Air::Arith => {
+            Air::of_operation(step.op).number() == air.number()
+        }
+        Air::Align => step.mem.is_some(),
+        Air::Mem | Air::Out => false,
+    }
 }
 
 fn rows_of(step: &StepRecord) -> Counts
     ensures { result ≡ counted (step.now ∷ []) }
 {
     Counts {
-        steps: 1,
-        binary: u32::from(is_of(Air::Binary, step)),
-        shift: u32::from(is_of(Air::Shift, step)),
-        arith: u32::from(is_of(Air::Arith, step)),
-        align: u32::from(step.mem.is_some()),
+        steps: u32::from(has_row(Air::Main, step)),
+        binary: u32::from(has_row(Air::Binary, step)),
+        shift: u32::from(has_row(Air::Shift, step)),
+        arith: u32::from(has_row(Air::Arith, step)),
+        align: u32::from(has_row(Air::Align, step)),
     }
 }
 
@@ -42,11 +52,10 @@ fn sum_of(a: Counts, b: Counts) -> Counts
     }
 }
 
-/// The rows that the chunk's steps have of each air: of Main one in each step, of Binary, Shift or Arith one in each step
-/// whose operation is that air's, of Align one in each load and store. It takes no memory.
+/// How many rows the chunk's steps have of each air. It takes no memory.
 pub fn count(image: &Image, chunk: &Chunk) -> Counts
     requires { IsChunk image.now chunk.now }
-    ensures value { result ≡ counted (records_between image.now (1024 * chunk.now.number) chunk.now.steps) }
+    ensures value { result ≡ counted (records_between image.now (first_step chunk.now.number) chunk.now.steps) }
     ensures few { IsOfChunk result }
 {
     let mut replay = Replay::new(image, chunk);

@@ -5,6 +5,7 @@ ghost use Rattle.planner.specs.Track.{IsBefore};
 
 use crate::{Counts, Job, Part};
 use gold::Sequence;
+use min_trace::MOST_CHUNKS;
 use std::alloc::{AllocError, Global};
 use zk_layout::Air;
 
@@ -39,7 +40,7 @@ fn parts_of(
     start: u32,
     first: u64,
 ) -> Result<Sequence<Part>, AllocError>
-    requires few { length counts.now ≤ 2 ^ 22 }
+    requires few { length counts.now ≤ MOST_CHUNKS }
     requires start { IsBefore air counts.now instance start first }
     requires low { first ≤ 2 ^ 32 }
     ensures { IfOk result (λ v. v ≡ parts air counts.now instance) }
@@ -67,7 +68,7 @@ pub fn make_job(
     start: u32,
     first: u64,
 ) -> Result<Job, AllocError>
-    requires few { length counts.now ≤ 2 ^ 22 }
+    requires few { length counts.now ≤ MOST_CHUNKS }
     requires start { IsBefore air counts.now instance start first }
     requires low { first ≤ 2 ^ 32 }
     ensures { IfOk result (λ j. j ≡ job_of air counts.now instance) }

@@ -1,5 +1,5 @@
 //! The plan.
-ghost use Rattle.std.specs.Prelude.{◌≡◌, ◌≤◌, ◌<◌, ◌^◌, ◌∷◌, [], ◌++◌, length, IfOk, OnOk, OnErr};
+ghost use Rattle.std.specs.Prelude.{◌≡◌, ◌≤◌, ◌<◌, ◌∷◌, [], ◌++◌, length, IfOk, OnOk, OnErr};
 ghost use Rattle.std.specs.List.{flat_map};
 ghost use Rattle.zk_layout.specs.declared.air.Air.{Air};
 ghost use Rattle.planner.specs.Rows.{IsOfChunk};
@@ -9,6 +9,7 @@ ghost use Rattle.planner.specs.Track.{IsTrack, IsNext, made_of, track_in};
 use crate::cutting::make_job;
 use crate::track::Tracks;
 use crate::{Counts, Job};
+use min_trace::MOST_CHUNKS;
 use std::alloc::{AllocError, Global};
 use std::marker::Model;
 use zk_layout::Air;
@@ -22,7 +23,7 @@ fn push_whole(
     old: &Tracks,
     new: &Tracks,
 ) -> Result<(), AllocError>
-    requires few { length counts.now ≤ 2 ^ 22 }
+    requires few { length counts.now ≤ MOST_CHUNKS }
     requires next { IsNext air counts.now (track_in air old.now) (track_in air new.now) }
     ensures { OnOk result (found.new.items ≡ found.old.items ++ made_of air counts.now old.now new.now) }
 {
@@ -50,7 +51,7 @@ fn jobs_made(
     old: &Tracks,
     new: &Tracks,
 ) -> Result<Vec<Job>, AllocError>
-    requires few { length counts.now ≤ 2 ^ 22 }
+    requires few { length counts.now ≤ MOST_CHUNKS }
     requires next { (air : Air) → IsNext air counts.now (track_in air old.now) (track_in air new.now) }
     ensures { IfOk result (λ v. v.items ≡ flat_map (λ air. made_of air counts.now old.now new.now) airs) }
 {
@@ -71,7 +72,7 @@ fn push_rest(
     air: Air,
     tracks: &Tracks,
 ) -> Result<(), AllocError>
-    requires few { length counts.now ≤ 2 ^ 22 }
+    requires few { length counts.now ≤ MOST_CHUNKS }
     requires track { IsTrack air counts.now (track_in air tracks.now) }
     ensures { OnOk result (found.new.items ≡ found.old.items ++ rest air counts.now) }
 {
@@ -88,7 +89,7 @@ fn push_rest(
 // The jobs that aren't whole and have a row.
 #[tactic(auto, unfolding(crate::specs::Jobs::finished))]
 fn jobs_left(alloc: Global, counts: &[Counts], tracks: &Tracks) -> Result<Vec<Job>, AllocError>
-    requires few { length counts.now ≤ 2 ^ 22 }
+    requires few { length counts.now ≤ MOST_CHUNKS }
     requires tracks { (air : Air) → IsTrack air counts.now (track_in air tracks.now) }
     ensures { IfOk result (λ v. v.items ≡ finished counts.now) }
 {
@@ -138,7 +139,7 @@ impl Plan {
     /// nothing. A job costs a walk from the chunk in which it begins to the new one, so that all jobs of a run together
     /// cost a few steps for each chunk.
     pub fn add(&mut self, counts: &Counts) -> Result<Vec<Job>, AllocError>
-        requires room { length self.old < 2 ^ 22 }
+        requires room { length self.old < MOST_CHUNKS }
         requires few { IsOfChunk counts.now }
         ensures jobs { IfOk result (λ v. v.items ≡ added self.old counts.now) }
         ensures ok { OnOk result (self.new ≡ self.old ++ counts.now ∷ []) }

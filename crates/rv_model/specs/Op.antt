@@ -1,4 +1,5 @@
--- The operations on 64-bit numbers (RISC-V Unprivileged ISA, "RV32I", "RV64I" and "M").
+-- The operations on 64-bit numbers (RISC-V Unprivileged ISA, "RV32I", "RV64I" and "M"; Zba, "Address generation
+-- instructions"; Zicond, "Integer Conditional Operations").
 use Rattle.std.specs.Prelude.{◌==◌, ℕ, ℤ, pos, ◌+◌, ◌-◌, ◌*◌, ◌/◌, ◌%◌, ◌^◌, ◌*ℤ◌, Bool, false, nat_lt, int_lt, bit_and, bit_or, bit_xor, int_div, int_rem, if◌then◌else◌}
 use Rattle.std.specs.Int.{cast_signed, cast_unsigned, int_shr, w32, w64}
 use Rattle.rv_word.specs.declared.instr.OpNo.{OpNo}
@@ -56,3 +57,8 @@ value_of ops.Divw a b = if b % 2 ^ 32 == 0 then 2 ^ 64 - 1 else word (bits_of (i
 value_of ops.Divuw a b = if b % 2 ^ 32 == 0 then 2 ^ 64 - 1 else word (a % 2 ^ 32 / (b % 2 ^ 32))
 value_of ops.Remw a b = if b % 2 ^ 32 == 0 then word a else bits_of (int_rem (signed_low a) (signed_low b))
 value_of ops.Remuw a b = if b % 2 ^ 32 == 0 then word a else word (a % 2 ^ 32 % (b % 2 ^ 32))
+value_of ops.Sh1add a b = (2 * a + b) % 2 ^ 64
+value_of ops.Sh2add a b = (4 * a + b) % 2 ^ 64
+value_of ops.Sh3add a b = (8 * a + b) % 2 ^ 64
+value_of ops.Czeqz a b = if b == 0 then 0 else a
+value_of ops.Cznez a b = if b == 0 then a else 0

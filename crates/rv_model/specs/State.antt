@@ -1,5 +1,6 @@
--- The machine: its state, and what a step does (RISC-V Unprivileged ISA, "RV32I", "RV64I").
-use Rattle.std.specs.Prelude.{◌==◌, ℕ, ◌+◌, ◌*◌, ◌/◌, ◌%◌, ◌^◌, Bool, not, nat_lt, int_lt, List, slice_index, slice_set, replicate, Option, Some, None, if◌then◌else◌}
+-- The machine: its state, and what a step does (RISC-V Unprivileged ISA, "RV32I", "RV64I"; Zba,
+-- "Address generation instructions").
+use Rattle.std.specs.Prelude.{◌==◌, ℕ, ◌+◌, ◌*◌, ◌/◌, ◌%◌, ◌^◌, Bool, true, false, not, nat_lt, int_lt, List, slice_index, slice_set, replicate, Option, Some, None, if◌then◌else◌}
 use Rattle.rv_word.specs.declared.instr.Cond.{Cond}
 use Rattle.rv_word.specs.declared.instr.Cond.TheVariants as conds
 use Rattle.rv_word.specs.declared.instr.Kind.{Kind}
@@ -33,6 +34,11 @@ wrapped n = n % 2 ^ 64
 
 abbrev pub reg : State → ℕ → ℕ
 reg s r = slice_index s.x r
+
+-- the first operand of an operation: the value of rs1, or with uw its low 32 bits
+abbrev pub operand : Bool → ℕ → ℕ
+operand true value = value % 2 ^ 32
+operand false value = value
 
 -- the registers with a value in rd; x0 is never written
 abbrev pub with_reg : List ℕ → ℕ → ℕ → List ℕ
@@ -91,8 +97,8 @@ executed (Jalr rd rs1 imm) s = jump s (with_reg s.x rd (wrapped (s.pc + 4))) (wr
 executed (Branch cond rs1 rs2 imm) s = if is_taken cond (reg s rs1) (reg s rs2) then jump s s.x (wrapped (s.pc + bits_of imm)) else next s
 executed (Load kind rd rs1 imm) s = load s kind rd (wrapped (reg s rs1 + bits_of imm))
 executed (Store kind rs1 rs2 imm) s = store s kind (wrapped (reg s rs1 + bits_of imm)) (reg s rs2)
-executed (OpImm op rd rs1 imm) s = next_with_reg s rd (value_of op (reg s rs1) (bits_of imm))
-executed (Op op rd rs1 rs2) s = next_with_reg s rd (value_of op (reg s rs1) (reg s rs2))
+executed (OpImm op rd rs1 imm uw) s = next_with_reg s rd (value_of op (operand uw (reg s rs1)) (bits_of imm))
+executed (Op op rd rs1 rs2 uw) s = next_with_reg s rd (value_of op (operand uw (reg s rs1)) (reg s rs2))
 executed Fence s = next s
 executed Ecall s = if reg s 17 == 93 then Halt else Fault (BadCall s.pc (reg s 17))
 executed Ebreak s = Fault (Break s.pc)

@@ -1,6 +1,6 @@
 //! An instruction over pc, registers and the one doubleword that it may touch.
 ghost use Rattle.std.specs.Prelude.{◌≡◌, ◌+◌, ◌*◌, ◌/◌, ◌%◌, ◌<◌, ◌≤◌, ◌^◌, slice_index, ℕ};
-ghost use Rattle.rv_model.specs.State.{with_reg, is_taken, wrapped, next, next_with_reg, load, store, jump, executed};
+ghost use Rattle.rv_model.specs.State.{with_reg, operand, is_taken, wrapped, next, next_with_reg, load, store, jump, executed};
 ghost use Rattle.rv_model.specs.Cpu.{with_memory, access, is_store, Touches, memory_after, told, KeepsUnlessNext, constant, forgot};
 
 use crate::{Access, RunFault, StepAnswer, align, op, width_of};
@@ -28,6 +28,15 @@ fn set_register(x: &mut [u64; 32], reg: Reg, value: u64)
     if number != 0 {
         x[number] = value;
     }
+}
+
+/// The first operand of an operation, by the value of rs1: with uw its low 32 bits (RISC-V Unprivileged ISA, Zba,
+/// "Address generation instructions").
+#[inline(always)]
+pub fn operand(uw: bool, value: u64) -> u64
+    ensures { result ≡ operand uw value }
+{
+    if uw { value % (1 << 32) } else { value }
 }
 
 #[inline(always)]
@@ -207,8 +216,10 @@ impl Cpu {
                 rd,
                 rs1,
                 imm,
+                uw,
             } => {
-                let value = op(*operation, register(&self.x, *rs1), imm.cast_unsigned()).0;
+                let a = operand(*uw, register(&self.x, *rs1));
+                let value = op(*operation, a, imm.cast_unsigned()).0;
                 self.write(*rd, value)
             }
             Instr::Op {
@@ -216,8 +227,10 @@ impl Cpu {
                 rd,
                 rs1,
                 rs2,
+                uw,
             } => {
-                let value = op(*operation, register(&self.x, *rs1), register(&self.x, *rs2)).0;
+                let a = operand(*uw, register(&self.x, *rs1));
+                let value = op(*operation, a, register(&self.x, *rs2)).0;
                 self.write(*rd, value)
             }
             Instr::Fence => self.pass(),

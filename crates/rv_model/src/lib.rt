@@ -17,7 +17,7 @@ mod tests;
 pub use access::Access;
 pub use alignment::{align, width_of};
 pub use answer::{Public, Ran, RunEnd, RunFault, StepAnswer};
-pub use cpu::{Cpu, is_store};
+pub use cpu::{Cpu, is_store, operand};
 pub use image::{Image, Segment};
 pub use operation::op;
 pub use plain::PlainCpu;

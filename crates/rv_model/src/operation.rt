@@ -1,4 +1,5 @@
-//! The operations on 64-bit numbers (RISC-V Unprivileged ISA, "RV32I", "RV64I" and "M").
+//! The operations on 64-bit numbers (RISC-V Unprivileged ISA, "RV32I", "RV64I" and "M"; Zba, "Address generation
+//! instructions"; Zicond, "Integer Conditional Operations").
 ghost use Rattle.std.specs.Prelude.{if◌then◌else◌, ◌≡◌, ℕ, ◌+◌, ◌-◌, ◌*◌, ◌/◌, ◌%◌, ◌<◌, ◌≤◌, ◌^◌, ◌≢◌};
 ghost use Rattle.std.specs.Prelude.{pos, int_lt, int_div, neg_ℤ, ◌≤ℤ◌, ◌<ℤ◌, ◌*ℤ◌};
 ghost use Rattle.std.specs.Int.{int_shr};
@@ -200,6 +201,14 @@ fn rem_unsigned_word(a: u64, b: u64) -> u64
     }
 }
 
+// The second operand and the first one shifted.
+fn shift_add(n: u32, a: u64, b: u64) -> u64
+    requires { n < 4 }
+    ensures { result ≡ (2 ^ n * a + b) % 2 ^ 64 }
+{
+    (a << n).wrapping_add(b)
+}
+
 fn less_signed(a: u64, b: u64) -> bool
     ensures { result ≡ int_lt (signed a) (signed b) }
 {
@@ -241,6 +250,11 @@ fn value(o: OpNo, a: u64, b: u64) -> u64
         OpNo::Divuw => div_unsigned_word(a, b),
         OpNo::Remw => rem_word(a, b),
         OpNo::Remuw => rem_unsigned_word(a, b),
+        OpNo::Sh1add => shift_add(1, a, b),
+        OpNo::Sh2add => shift_add(2, a, b),
+        OpNo::Sh3add => shift_add(3, a, b),
+        OpNo::Czeqz => if b == 0 { 0 } else { a },
+        OpNo::Cznez => if b == 0 { a } else { 0 },
     }
 }
 

@@ -84,6 +84,16 @@ fn shift_edges(rt: HostRuntime) {
 }
 
 #[test]
+fn new_operations(rt: HostRuntime) {
+    assert_eq!(&rt;
+        value(OpNo::Sh3add, u64::MAX, u64::MAX),
+        0xFFFF_FFFF_FFFF_FFF7
+    );
+    assert_eq!(&rt; value(OpNo::Czeqz, 5, 0), 0);
+    assert_eq!(&rt; value(OpNo::Cznez, 5, 0), 5);
+}
+
+#[test]
 fn align_bytes(rt: HostRuntime) {
     let stored = align(Kind::Sb, 7, 0, 0xF0);
     assert_eq!(&rt; stored, 0xF000_0000_0000_0000);
@@ -99,6 +109,13 @@ fn exit_seven(rt: HostRuntime) -> Result<(), Fail> {
         end_of(rt.alloc(), START, &words, 2)?,
         Err(RunEnd::StepLimit(2))
     );
+    Ok(())
+}
+
+#[test]
+fn add_uw_run(rt: HostRuntime) -> Result<(), Fail> {
+    let words = [0xFFF0_0513, 0x0805_053B, 0x05D0_0893, 0x0000_0073];
+    assert_halts(&rt, end_of(rt.alloc(), START, &words, 4)?, 4, 4_294_967_295);
     Ok(())
 }
 

@@ -6,7 +6,7 @@ use Rattle.std.proofs.lemmas.Int.{ints}
 use Rattle.std.proofs.lemmas.List.Elements.{All-from_recursion}
 use Rattle.std.proofs.lemmas.List.Sums.{AllPass-from_list_all}
 use Rattle.rv_word.specs.Fields.{bits_at, signed, i_imm, s_imm, b_imm, u_imm, j_imm}
-use Rattle.rv_word.specs.Table.{Field, Row, rows, r_type, i_type, shift_type, shift_w_type, s_type, b_type, u_type, j_type, system_type}
+use Rattle.rv_word.specs.Table.{Field, Row, rows, r_type, i_type, shift_type, shift_w_type, s_type, b_type, u_type, j_type, system_type, imm_op, reg_op}
 use Rattle.rv_word.specs.Is.{Is, Has, Fits, decoded}
 use Rattle.rv_word.specs.Numbers.{op_number, kind_number}
 use Rattle.rv_word.specs.Encoding.{fields_sum, fixed_bits, low, s_bits, b_bits, j_bits, operand_bits, encoding}
@@ -59,7 +59,7 @@ fields_read-Has w [] h = refl
 fields_read-Has w (f ∷ fs) h = rw (h.0, fields_read-Has w fs h.1) refl
 
 -- each form reads all of the word
-r_whole : (w : ℕ) → w < 2 ^ 32 → read_bits w (r_type 0 0 0 (instrs.Op ops.Add)) ≡ w
+r_whole : (w : ℕ) → w < 2 ^ 32 → read_bits w (r_type 0 0 0 (reg_op ops.Add)) ≡ w
 unfolding bits_at
 r_whole w h = omega arith
 
@@ -67,11 +67,11 @@ i_whole : (w : ℕ) → w < 2 ^ 32 → read_bits w (i_type 0 0 Jalr) ≡ w
 unfolding bits_at
 i_whole w h = let n = i_low w in omega (arith, n)
 
-shift_whole : (w : ℕ) → w < 2 ^ 32 → read_bits w (shift_type 0 0 0 (instrs.OpImm ops.Sll)) ≡ w
+shift_whole : (w : ℕ) → w < 2 ^ 32 → read_bits w (shift_type 0 0 0 (imm_op ops.Sll)) ≡ w
 unfolding bits_at
 shift_whole w h = let n = amount_6_low w in omega (arith, n)
 
-shift_w_whole : (w : ℕ) → w < 2 ^ 32 → read_bits w (shift_w_type 0 0 0 (instrs.OpImm ops.Sllw)) ≡ w
+shift_w_whole : (w : ℕ) → w < 2 ^ 32 → read_bits w (shift_w_type 0 0 0 (imm_op ops.Sllw)) ≡ w
 unfolding bits_at
 shift_w_whole w h = let n = amount_5_low w in omega (arith, n)
 

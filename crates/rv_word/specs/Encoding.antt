@@ -29,8 +29,10 @@ same_name (Jalr _ _ _) (Jalr _ _ _) = true
 same_name (Branch c _ _ _) (Branch d _ _ _) = same_cond c d
 same_name (Load j _ _ _) (Load k _ _ _) = kind_number j == kind_number k
 same_name (Store j _ _ _) (Store k _ _ _) = kind_number j == kind_number k
-same_name (OpImm o _ _ _) (OpImm p _ _ _) = op_number o == op_number p
-same_name (Op o _ _ _) (Op p _ _ _) = op_number o == op_number p
+same_name (OpImm o _ _ _ false) (OpImm p _ _ _ false) = op_number o == op_number p
+same_name (OpImm o _ _ _ true) (OpImm p _ _ _ true) = op_number o == op_number p
+same_name (Op o _ _ _ false) (Op p _ _ _ false) = op_number o == op_number p
+same_name (Op o _ _ _ true) (Op p _ _ _ true) = op_number o == op_number p
 same_name Fence Fence = true
 same_name Ecall Ecall = true
 same_name Ebreak Ebreak = true
@@ -68,8 +70,8 @@ operand_bits (Jalr rd rs1 imm) = 2 ^ 7 * rd + 2 ^ 15 * rs1 + 2 ^ 20 * low 12 imm
 operand_bits (Branch c rs1 rs2 imm) = 2 ^ 15 * rs1 + 2 ^ 20 * rs2 + b_bits (low 13 imm)
 operand_bits (Load k rd rs1 imm) = 2 ^ 7 * rd + 2 ^ 15 * rs1 + 2 ^ 20 * low 12 imm
 operand_bits (Store k rs1 rs2 imm) = 2 ^ 15 * rs1 + 2 ^ 20 * rs2 + s_bits (low 12 imm)
-operand_bits (OpImm o rd rs1 imm) = 2 ^ 7 * rd + 2 ^ 15 * rs1 + 2 ^ 20 * low 12 imm
-operand_bits (Op o rd rs1 rs2) = 2 ^ 7 * rd + 2 ^ 15 * rs1 + 2 ^ 20 * rs2
+operand_bits (OpImm o rd rs1 imm uw) = 2 ^ 7 * rd + 2 ^ 15 * rs1 + 2 ^ 20 * low 12 imm
+operand_bits (Op o rd rs1 rs2 uw) = 2 ^ 7 * rd + 2 ^ 15 * rs1 + 2 ^ 20 * rs2
 operand_bits _ = 0
 
 -- where no word stands for the instruction the sum may pass 32 bits

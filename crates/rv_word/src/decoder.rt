@@ -1,5 +1,5 @@
 //! From a word to its instruction.
-ghost use Rattle.std.specs.Prelude.{◌≡◌, ℕ, IfSome, Some};
+ghost use Rattle.std.specs.Prelude.{◌≡◌, ℕ, false, IfSome, Some};
 ghost use Rattle.std.specs.Option.{option_map};
 ghost use Rattle.rv_word.specs.declared.instr.Instr.{Instr};
 ghost use Rattle.rv_word.specs.declared.instr.Instr.TheVariants.{Branch, Load, Store, OpImm, Op};
@@ -68,7 +68,7 @@ fn stored(word: u32) -> Option<Kind>
 #[inline(always)]
 fn operation(word: u32) -> Option<OpNo>
     requires { bits_at 0 7 word ≡ 0x33 }
-    ensures { option_map (λ o. Op o (rd_of word) (rs1_of word) (rs2_of word)) result ≡ decoded word }
+    ensures { option_map (λ o. Op o (rd_of word) (rs1_of word) (rs2_of word) false) result ≡ decoded word }
 {
     match (bits(word, 25, 7), bits(word, 12, 3)) {
         (0x00, 0) => Some(OpNo::Add),
@@ -87,6 +87,11 @@ fn operation(word: u32) -> Option<OpNo>
         (0x01, 5) => Some(OpNo::Divu),
         (0x01, 6) => Some(OpNo::Rem),
         (0x01, 7) => Some(OpNo::Remu),
+        (0x07, 5) => Some(OpNo::Czeqz),
+        (0x07, 7) => Some(OpNo::Cznez),
+        (0x10, 2) => Some(OpNo::Sh1add),
+        (0x10, 4) => Some(OpNo::Sh2add),
+        (0x10, 6) => Some(OpNo::Sh3add),
         (0x20, 0) => Some(OpNo::Sub),
         (0x20, 5) => Some(OpNo::Sra),
         _ => None,
@@ -95,21 +100,25 @@ fn operation(word: u32) -> Option<OpNo>
 
 #[tactic(auto, unfolding(crate::specs::Is::decoded, crate::specs::Table::rows))]
 #[inline(always)]
-fn operation_32(word: u32) -> Option<OpNo>
+fn operation_32(word: u32) -> Option<(OpNo, bool)>
     requires { bits_at 0 7 word ≡ 0x3b }
-    ensures { option_map (λ o. Op o (rd_of word) (rs1_of word) (rs2_of word)) result ≡ decoded word }
+    ensures { option_map (λ p. Op p.0 (rd_of word) (rs1_of word) (rs2_of word) p.1) result ≡ decoded word }
 {
     match (bits(word, 25, 7), bits(word, 12, 3)) {
-        (0x00, 0) => Some(OpNo::Addw),
-        (0x00, 1) => Some(OpNo::Sllw),
-        (0x00, 5) => Some(OpNo::Srlw),
-        (0x01, 0) => Some(OpNo::Mulw),
-        (0x01, 4) => Some(OpNo::Divw),
-        (0x01, 5) => Some(OpNo::Divuw),
-        (0x01, 6) => Some(OpNo::Remw),
-        (0x01, 7) => Some(OpNo::Remuw),
-        (0x20, 0) => Some(OpNo::Subw),
-        (0x20, 5) => Some(OpNo::Sraw),
+        (0x00, 0) => Some((OpNo::Addw, false)),
+        (0x00, 1) => Some((OpNo::Sllw, false)),
+        (0x00, 5) => Some((OpNo::Srlw, false)),
+        (0x01, 0) => Some((OpNo::Mulw, false)),
+        (0x01, 4) => Some((OpNo::Divw, false)),
+        (0x01, 5) => Some((OpNo::Divuw, false)),
+        (0x01, 6) => Some((OpNo::Remw, false)),
+        (0x01, 7) => Some((OpNo::Remuw, false)),
+        (0x04, 0) => Some((OpNo::Add, true)),
+        (0x10, 2) => Some((OpNo::Sh1add, true)),
+        (0x10, 4) => Some((OpNo::Sh2add, true)),
+        (0x10, 6) => Some((OpNo::Sh3add, true)),
+        (0x20, 0) => Some((OpNo::Subw, false)),
+        (0x20, 5) => Some((OpNo::Sraw, false)),
         _ => None,
     }
 }
@@ -118,7 +127,7 @@ fn operation_32(word: u32) -> Option<OpNo>
 #[inline(always)]
 fn immediate(word: u32) -> Option<(OpNo, i64)>
     requires { bits_at 0 7 word ≡ 0x13 }
-    ensures { option_map (λ p. OpImm p.0 (rd_of word) (rs1_of word) p.1) result ≡ decoded word }
+    ensures { option_map (λ p. OpImm p.0 (rd_of word) (rs1_of word) p.1 false) result ≡ decoded word }
 {
     let imm = i_immediate(word);
     let amount = i64::from(bits(word, 20, 6));
@@ -138,17 +147,18 @@ fn immediate(word: u32) -> Option<(OpNo, i64)>
 
 #[tactic(auto, unfolding(crate::specs::Is::decoded, crate::specs::Table::rows))]
 #[inline(always)]
-fn immediate_32(word: u32) -> Option<(OpNo, i64)>
+fn immediate_32(word: u32) -> Option<(OpNo, i64, bool)>
     requires { bits_at 0 7 word ≡ 0x1b }
-    ensures { option_map (λ p. OpImm p.0 (rd_of word) (rs1_of word) p.1) result ≡ decoded word }
+    ensures { option_map (λ p. OpImm p.0 (rd_of word) (rs1_of word) p.1 p.2) result ≡ decoded word }
 {
     let imm = i_immediate(word);
     let amount = i64::from(bits(word, 20, 5));
-    match (bits(word, 12, 3), bits(word, 25, 7)) {
-        (0, _) => Some((OpNo::Addw, imm)),
-        (1, 0x00) => Some((OpNo::Sllw, amount)),
-        (5, 0x00) => Some((OpNo::Srlw, amount)),
-        (5, 0x20) => Some((OpNo::Sraw, amount)),
+    match (bits(word, 12, 3), bits(word, 26, 6), bits(word, 25, 1)) {
+        (0, _, _) => Some((OpNo::Addw, imm, false)),
+        (1, 0x02, _) => Some((OpNo::Sll, i64::from(bits(word, 20, 6)), true)),
+        (1, 0x00, 0) => Some((OpNo::Sllw, amount, false)),
+        (5, 0x00, 0) => Some((OpNo::Srlw, amount, false)),
+        (5, 0x10, 0) => Some((OpNo::Sraw, amount, false)),
         _ => None,
     }
 }
@@ -210,15 +220,17 @@ fn instruction(word: u32) -> Option<Instr>
                 rd: rd(word),
                 rs1: rs1(word),
                 imm,
+                uw: false,
             })
         }
         0x1b => {
-            let (op, imm) = immediate_32(word)?;
+            let (op, imm, uw) = immediate_32(word)?;
             Some(Instr::OpImm {
                 op,
                 rd: rd(word),
                 rs1: rs1(word),
                 imm,
+                uw,
             })
         }
         0x33 => {
@@ -228,15 +240,17 @@ fn instruction(word: u32) -> Option<Instr>
                 rd: rd(word),
                 rs1: rs1(word),
                 rs2: rs2(word),
+                uw: false,
             })
         }
         0x3b => {
-            let op = operation_32(word)?;
+            let (op, uw) = operation_32(word)?;
             Some(Instr::Op {
                 op,
                 rd: rd(word),
                 rs1: rs1(word),
                 rs2: rs2(word),
+                uw,
             })
         }
         0x0f if bits(word, 12, 3) == 0 => Some(Instr::Fence),
@@ -249,8 +263,8 @@ fn instruction(word: u32) -> Option<Instr>
     }
 }
 
-/// The instruction that the word stands for, or `None` if it stands for none of RV64IM (RISC-V Unprivileged
-/// ISA, RV32/64G Instruction Set Listings).
+/// The instruction that the word stands for, or `None` if it stands for none of RV64IM, Zba and Zicond
+/// (RISC-V Unprivileged ISA, RV32/64G Instruction Set Listings).
 #[inline]
 pub fn decode(word: u32) -> Option<Instr>
     ensures value { result ≡ decoded word }

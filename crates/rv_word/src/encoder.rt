@@ -86,62 +86,72 @@ fn fields(opcode: u64, funct3: u64, funct7: u64) -> u64
 }
 
 #[tactic(auto, unfolding(crate::specs::Encoding::fixed_bits, crate::specs::Table::rows, crate::specs::Numbers::op_number))]
-fn operation_fields(op: OpNo) -> u64
-    ensures value { (rd rs1 rs2 : ℕ) → result ≡ fixed_bits (instrs.Op op rd rs1 rs2) }
+fn operation_fields(op: OpNo, uw: bool) -> u64
+    ensures value { (rd rs1 rs2 : ℕ) → result ≡ fixed_bits (instrs.Op op rd rs1 rs2 uw) }
     ensures below { result < 2 ^ 32 }
 {
-    match op {
-        OpNo::Add => fields(0x33, 0, 0x00),
-        OpNo::Sub => fields(0x33, 0, 0x20),
-        OpNo::Sll => fields(0x33, 1, 0x00),
-        OpNo::Lt => fields(0x33, 2, 0x00),
-        OpNo::Ltu => fields(0x33, 3, 0x00),
-        OpNo::Xor => fields(0x33, 4, 0x00),
-        OpNo::Srl => fields(0x33, 5, 0x00),
-        OpNo::Sra => fields(0x33, 5, 0x20),
-        OpNo::Or => fields(0x33, 6, 0x00),
-        OpNo::And => fields(0x33, 7, 0x00),
-        OpNo::Mul => fields(0x33, 0, 0x01),
-        OpNo::Mulh => fields(0x33, 1, 0x01),
-        OpNo::Mulhsu => fields(0x33, 2, 0x01),
-        OpNo::Mulhu => fields(0x33, 3, 0x01),
-        OpNo::Div => fields(0x33, 4, 0x01),
-        OpNo::Divu => fields(0x33, 5, 0x01),
-        OpNo::Rem => fields(0x33, 6, 0x01),
-        OpNo::Remu => fields(0x33, 7, 0x01),
-        OpNo::Addw => fields(0x3b, 0, 0x00),
-        OpNo::Subw => fields(0x3b, 0, 0x20),
-        OpNo::Sllw => fields(0x3b, 1, 0x00),
-        OpNo::Srlw => fields(0x3b, 5, 0x00),
-        OpNo::Sraw => fields(0x3b, 5, 0x20),
-        OpNo::Mulw => fields(0x3b, 0, 0x01),
-        OpNo::Divw => fields(0x3b, 4, 0x01),
-        OpNo::Divuw => fields(0x3b, 5, 0x01),
-        OpNo::Remw => fields(0x3b, 6, 0x01),
-        OpNo::Remuw => fields(0x3b, 7, 0x01),
-        OpNo::Eq => 0,
+    match (op, uw) {
+        (OpNo::Add, false) => fields(0x33, 0, 0x00),
+        (OpNo::Sub, false) => fields(0x33, 0, 0x20),
+        (OpNo::Sll, false) => fields(0x33, 1, 0x00),
+        (OpNo::Lt, false) => fields(0x33, 2, 0x00),
+        (OpNo::Ltu, false) => fields(0x33, 3, 0x00),
+        (OpNo::Xor, false) => fields(0x33, 4, 0x00),
+        (OpNo::Srl, false) => fields(0x33, 5, 0x00),
+        (OpNo::Sra, false) => fields(0x33, 5, 0x20),
+        (OpNo::Or, false) => fields(0x33, 6, 0x00),
+        (OpNo::And, false) => fields(0x33, 7, 0x00),
+        (OpNo::Mul, false) => fields(0x33, 0, 0x01),
+        (OpNo::Mulh, false) => fields(0x33, 1, 0x01),
+        (OpNo::Mulhsu, false) => fields(0x33, 2, 0x01),
+        (OpNo::Mulhu, false) => fields(0x33, 3, 0x01),
+        (OpNo::Div, false) => fields(0x33, 4, 0x01),
+        (OpNo::Divu, false) => fields(0x33, 5, 0x01),
+        (OpNo::Rem, false) => fields(0x33, 6, 0x01),
+        (OpNo::Remu, false) => fields(0x33, 7, 0x01),
+        (OpNo::Addw, false) => fields(0x3b, 0, 0x00),
+        (OpNo::Subw, false) => fields(0x3b, 0, 0x20),
+        (OpNo::Sllw, false) => fields(0x3b, 1, 0x00),
+        (OpNo::Srlw, false) => fields(0x3b, 5, 0x00),
+        (OpNo::Sraw, false) => fields(0x3b, 5, 0x20),
+        (OpNo::Mulw, false) => fields(0x3b, 0, 0x01),
+        (OpNo::Divw, false) => fields(0x3b, 4, 0x01),
+        (OpNo::Divuw, false) => fields(0x3b, 5, 0x01),
+        (OpNo::Remw, false) => fields(0x3b, 6, 0x01),
+        (OpNo::Remuw, false) => fields(0x3b, 7, 0x01),
+        (OpNo::Sh1add, false) => fields(0x33, 2, 0x10),
+        (OpNo::Sh2add, false) => fields(0x33, 4, 0x10),
+        (OpNo::Sh3add, false) => fields(0x33, 6, 0x10),
+        (OpNo::Add, true) => fields(0x3b, 0, 0x04),
+        (OpNo::Sh1add, true) => fields(0x3b, 2, 0x10),
+        (OpNo::Sh2add, true) => fields(0x3b, 4, 0x10),
+        (OpNo::Sh3add, true) => fields(0x3b, 6, 0x10),
+        (OpNo::Czeqz, false) => fields(0x33, 5, 0x07),
+        (OpNo::Cznez, false) => fields(0x33, 7, 0x07),
+        _ => 0,
     }
 }
 
 #[tactic(auto, unfolding(crate::specs::Encoding::fixed_bits, crate::specs::Table::rows, crate::specs::Numbers::op_number))]
-fn immediate_fields(op: OpNo) -> u64
-    ensures value { (rd rs1 : ℕ) (imm : ℤ) → result ≡ fixed_bits (instrs.OpImm op rd rs1 imm) }
+fn immediate_fields(op: OpNo, uw: bool) -> u64
+    ensures value { (rd rs1 : ℕ) (imm : ℤ) → result ≡ fixed_bits (instrs.OpImm op rd rs1 imm uw) }
     ensures below { result < 2 ^ 32 }
 {
-    match op {
-        OpNo::Add => fields(0x13, 0, 0x00),
-        OpNo::Sll => fields(0x13, 1, 0x00),
-        OpNo::Lt => fields(0x13, 2, 0x00),
-        OpNo::Ltu => fields(0x13, 3, 0x00),
-        OpNo::Xor => fields(0x13, 4, 0x00),
-        OpNo::Srl => fields(0x13, 5, 0x00),
-        OpNo::Sra => fields(0x13, 5, 0x20),
-        OpNo::Or => fields(0x13, 6, 0x00),
-        OpNo::And => fields(0x13, 7, 0x00),
-        OpNo::Addw => fields(0x1b, 0, 0x00),
-        OpNo::Sllw => fields(0x1b, 1, 0x00),
-        OpNo::Srlw => fields(0x1b, 5, 0x00),
-        OpNo::Sraw => fields(0x1b, 5, 0x20),
+    match (op, uw) {
+        (OpNo::Add, false) => fields(0x13, 0, 0x00),
+        (OpNo::Sll, false) => fields(0x13, 1, 0x00),
+        (OpNo::Lt, false) => fields(0x13, 2, 0x00),
+        (OpNo::Ltu, false) => fields(0x13, 3, 0x00),
+        (OpNo::Xor, false) => fields(0x13, 4, 0x00),
+        (OpNo::Srl, false) => fields(0x13, 5, 0x00),
+        (OpNo::Sra, false) => fields(0x13, 5, 0x20),
+        (OpNo::Or, false) => fields(0x13, 6, 0x00),
+        (OpNo::And, false) => fields(0x13, 7, 0x00),
+        (OpNo::Addw, false) => fields(0x1b, 0, 0x00),
+        (OpNo::Sllw, false) => fields(0x1b, 1, 0x00),
+        (OpNo::Srlw, false) => fields(0x1b, 5, 0x00),
+        (OpNo::Sraw, false) => fields(0x1b, 5, 0x20),
+        (OpNo::Sll, true) => fields(0x1b, 1, 0x04),
         _ => 0,
     }
 }
@@ -206,8 +216,8 @@ fn instruction_fields(i: &Instr) -> u64
         Instr::Branch { cond, .. } => branch_fields(cond),
         Instr::Load { kind, .. } => load_fields(kind),
         Instr::Store { kind, .. } => store_fields(kind),
-        Instr::OpImm { op, .. } => immediate_fields(op),
-        Instr::Op { op, .. } => operation_fields(op),
+        Instr::OpImm { op, uw, .. } => immediate_fields(op, uw),
+        Instr::Op { op, uw, .. } => operation_fields(op, uw),
         Instr::Fence => fields(0x0f, 0, 0x00),
         Instr::Ecall => 0x0000_0073,
         Instr::Ebreak => 0x0010_0073,
@@ -252,7 +262,7 @@ fn same(a: &Instr, b: &Instr) -> bool
     a == b
 }
 
-/// Whether some word stands for the instruction: its name is one of RV64IM, and its immediate is one that its
+/// Whether some word stands for the instruction: its name is one of RV64IM, Zba or Zicond, and its immediate is one that its
 /// form can hold (RISC-V Unprivileged ISA, 2.2 and 2.3).
 pub fn fits(i: &Instr) -> bool
     ensures { IsTrue result ↔ Fits i.now }

@@ -86,10 +86,15 @@ pub enum OpNo {
     Divuw,
     Remw,
     Remuw,
+    Sh1add,
+    Sh2add,
+    Sh3add,
+    Czeqz,
+    Cznez,
 }
 
 impl OpNo {
-    /// The operation's number, from 1 for ADD to 29 for REMUW.
+    /// The operation's number, from 1 for ADD to 34 for CZNEZ.
     #[tactic(auto, unfolding(crate::specs::Numbers::op_number))]
     pub fn number(self) -> u8
         ensures { result ≡ op_number self }
@@ -124,13 +129,20 @@ impl OpNo {
             OpNo::Divuw => 27,
             OpNo::Remw => 28,
             OpNo::Remuw => 29,
+            OpNo::Sh1add => 30,
+            OpNo::Sh2add => 31,
+            OpNo::Sh3add => 32,
+            OpNo::Czeqz => 33,
+            OpNo::Cznez => 34,
         }
     }
 }
 
-/// An instruction of RV64IM with its operands (RISC-V Unprivileged ISA, RV32/64G Instruction Set Listings).
+/// An instruction of RV64IM, Zba or Zicond with its operands (RISC-V Unprivileged ISA, RV32/64G Instruction Set Listings).
 /// An immediate is the signed number that its bits stand for; that of a shift is its amount.
-/// SLT and SLTU are `Lt` and `Ltu`; an `OpImm` or `Op` that no instruction has, as `OpImm` with `Sub`, has no word.
+/// SLT and SLTU are `Lt` and `Ltu`. With `uw` the first operand is the low 32 bits of rs1, filled up with zeros:
+/// ADD.UW, SH1ADD.UW, SH2ADD.UW, SH3ADD.UW and SLLI.UW have it. An `OpImm` or `Op` that no instruction has, as
+/// `OpImm` with `Sub`, has no word.
 #[derive(Clone, Copy, Debug, PartialEq, Eq)]
 pub enum Instr {
     Lui {
@@ -173,12 +185,14 @@ pub enum Instr {
         rd: Reg,
         rs1: Reg,
         imm: i64,
+        uw: bool,
     },
     Op {
         op: OpNo,
         rd: Reg,
         rs1: Reg,
         rs2: Reg,
+        uw: bool,
     },
     Fence,
     Ecall,

@@ -1,4 +1,4 @@
-//! The instructions of RV64IM: which 32-bit word stands for which instruction.
+//! The instructions of RV64IM, Zba and Zicond: which 32-bit word stands for which instruction.
 //! `decode` and `encode` both follow one relation, `Is` of specs/Is.antt, which is read off a table of rows.
 #![tactic(auto)]
 

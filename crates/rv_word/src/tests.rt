@@ -1,4 +1,4 @@
-//! Words as LLVM's assembler writes them, and words that are no instruction of RV64IM.
+//! Words as LLVM's assembler writes them, and words that are no instruction.
 use crate::{Cond, Instr, Kind, OpNo, Reg, decode, decoding_law, encode, fits, round_trip};
 use std::process::Abort;
 
@@ -147,6 +147,7 @@ fn reads_operations_with_immediates(rt: HostRuntime) {
                 rd: reg(rd),
                 rs1: reg(rs1),
                 imm,
+                uw: false,
             },
         );
     }
@@ -192,6 +193,65 @@ fn reads_operations(rt: HostRuntime) {
                 rd: reg(rd),
                 rs1: reg(rs1),
                 rs2: reg(rs2),
+                uw: false,
+            },
+        );
+    }
+}
+
+#[test]
+fn new_words_encoded(rt: HostRuntime) {
+    let (rd, rs1, rs2) = (reg(5), reg(6), reg(7));
+    for (word, op, uw) in [
+        (0x0E73_52B3, OpNo::Czeqz, false), // CZERO.EQZ x5, x6, x7
+        (0x2073_62BB, OpNo::Sh3add, true), // SH3ADD.UW x5, x6, x7
+    ] {
+        assert_stands_for(
+            &rt,
+            word,
+            Instr::Op {
+                op,
+                rd,
+                rs1,
+                rs2,
+                uw,
+            },
+        );
+    }
+    // SLLI.UW x5, x6, 63
+    assert_stands_for(
+        &rt,
+        0x0BF3_129B,
+        Instr::OpImm {
+            op: OpNo::Sll,
+            rd,
+            rs1,
+            imm: 63,
+            uw: true,
+        },
+    );
+}
+
+#[test]
+fn reads_address_generation(rt: HostRuntime) {
+    for (word, op, rd, rs1, rs2, uw) in [
+        (0x20b5_2533, OpNo::Sh1add, 10, 10, 11, false),
+        (0x2031_40b3, OpNo::Sh2add, 1, 2, 3, false),
+        (0x2031_60b3, OpNo::Sh3add, 1, 2, 3, false),
+        (0x08b5_053b, OpNo::Add, 10, 10, 11, true),
+        (0x2031_20bb, OpNo::Sh1add, 1, 2, 3, true),
+        (0x2031_40bb, OpNo::Sh2add, 1, 2, 3, true),
+        (0x0e31_70b3, OpNo::Cznez, 1, 2, 3, false),
+    ] {
+        assert_stands_for(
+            &rt,
+            word,
+            Instr::Op {
+                op,
+                rd: reg(rd),
+                rs1: reg(rs1),
+                rs2: reg(rs2),
+                uw,
             },
         );
     }
@@ -229,9 +289,10 @@ fn refuses_other_words(rt: HostRuntime) {
         0x0217_979b, // SLLIW with bit 25
         0x0400_1013, // SLLI with bit 26
         0x0800_5013, // SRLI with bit 27
-        0x08b5_053b, // ADD.UW
-        0x20b5_2533, // SH1ADD
-        0x0a31_109b, // SLLI.UW
+        0x0c31_109b, // SLLI.UW with bit 26
+        0x0e31_30b3, // CZERO with funct3 3
+        0x0c31_113b, // ADD.UW's funct7 with bit 26
+        0x4a31_00bb, // REV8's funct7
         0x0201_10bb, // funct3 1 of RV64M on 32 bits
         0x4020_10b3, // SUB's funct7 with funct3 1
         0x0000_1067, // JALR with funct3 1
@@ -290,19 +351,32 @@ fn refuses_operands_without_a_word(rt: HostRuntime) {
                 op: OpNo::Add,
                 rd,
                 rs1,
-                imm
+                imm,
+                uw: false
             }),
             "{imm}"
         );
     }
-    for (op, imm) in [
-        (OpNo::Sll, 64),
-        (OpNo::Sra, -1),
-        (OpNo::Sllw, 32),
-        (OpNo::Sub, 0),
-        (OpNo::Mul, 0),
+    for (op, imm, uw) in [
+        (OpNo::Sll, 64, false),
+        (OpNo::Sll, 64, true),
+        (OpNo::Sra, -1, false),
+        (OpNo::Sllw, 32, false),
+        (OpNo::Sub, 0, false),
+        (OpNo::Mul, 0, false),
+        (OpNo::Add, 0, true),
+        (OpNo::Srl, 0, true),
     ] {
-        assert!(rt; !fits(&Instr::OpImm { op, rd, rs1, imm }), "{imm}");
+        assert!(rt;
+            !fits(&Instr::OpImm {
+                op,
+                rd,
+                rs1,
+                imm,
+                uw
+            }),
+            "{imm}"
+        );
     }
     assert!(rt;
         !fits(&Instr::Load {
@@ -320,19 +394,27 @@ fn refuses_operands_without_a_word(rt: HostRuntime) {
             imm: 0
         })
     );
-    assert!(rt;
-        !fits(&Instr::Op {
-            op: OpNo::Eq,
-            rd,
-            rs1,
-            rs2
-        })
-    );
+    for (op, uw) in [
+        (OpNo::Eq, false),
+        (OpNo::Sub, true),
+        (OpNo::Sll, true),
+        (OpNo::Czeqz, true),
+    ] {
+        assert!(rt;
+            !fits(&Instr::Op {
+                op,
+                rd,
+                rs1,
+                rs2,
+                uw
+            })
+        );
+    }
 }
 
 #[test]
 fn numbers_names(rt: HostRuntime) {
-    assert!(rt; OpNo::Add.number() == 1 && OpNo::Mul.number() == 17 && OpNo::Remuw.number() == 29);
+    assert!(rt; OpNo::Add.number() == 1 && OpNo::Mul.number() == 17 && OpNo::Cznez.number() == 34);
     assert!(rt; Kind::Lb.number() == 1 && Kind::Sb.number() == 8 && Kind::Sd.number() == 11);
     assert!(rt; reg(31).number() == 31);
     decoding_law();

@@ -25,6 +25,6 @@ rows_per Arith = 1024
 rows_per Align = 2048
 rows_per Out = 64
 
--- operations 1 to 10 are Binary's, 11 to 16 Shift's, 17 to 29 Arith's
+-- operations 1 to 10 are Binary's, 11 to 16 Shift's, 17 to 29 Arith's, 30 to 34 Binary's
 unfoldable pub air_of : OpNo → Air
-air_of op = if nat_le (op_number op) 10 then Binary else if nat_le (op_number op) 16 then Shift else Arith
+air_of op = if nat_le (op_number op) 10 then Binary else if nat_le (op_number op) 16 then Shift else if nat_le (op_number op) 29 then Arith else Binary

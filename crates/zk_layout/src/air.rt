@@ -74,7 +74,12 @@ impl Air {
             | OpNo::Or
             | OpNo::Xor
             | OpNo::Addw
-            | OpNo::Subw => Air::Binary,
+            | OpNo::Subw
+            | OpNo::Sh1add
+            | OpNo::Sh2add
+            | OpNo::Sh3add
+            | OpNo::Czeqz
+            | OpNo::Cznez => Air::Binary,
             OpNo::Sll | OpNo::Srl | OpNo::Sra | OpNo::Sllw | OpNo::Srlw | OpNo::Sraw => Air::Shift,
             OpNo::Mul
             | OpNo::Mulh

@@ -1,5 +1,5 @@
 use Rattle.std.proofs.Common.{◌∙◌, ap}
-use Rattle.planner.specs.Count.{counted}
+use Rattle.planner.specs.Rows.{counted}
 use Rattle.planner.proofs.CountLemmas.{so_far_low, one_low, count_onward, all_counted, records_few}
 use Rattle.planner.proofs.counting.count.Goals as goal
 

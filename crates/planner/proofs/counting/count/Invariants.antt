@@ -1,5 +1,5 @@
 use Rattle.std.proofs.Common.{◌≡◌, length}
-use Rattle.planner.specs.Count.{counted, sum_of}
+use Rattle.planner.specs.Rows.{counted, sum_of}
 use Rattle.planner.proofs.counting.count.Given as goal
 
 abbrev pub invariant-loop-step : goal.invariant-loop-step
