@@ -1,0 +1,5 @@
+pub mod Added
+pub mod Begun
+pub mod Cells
+pub mod Order
+pub mod Walked

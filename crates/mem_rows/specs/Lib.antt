@@ -1,0 +1,6 @@
+pub mod Accesses
+pub mod Order
+pub mod Kept
+pub mod Rows
+pub mod Columns
+pub mod Initial
