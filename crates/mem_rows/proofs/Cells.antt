@@ -1,11 +1,17 @@
 -- The columns of an instance's rows.
-use Rattle.std.proofs.Common.{◌≡◌, ◌+◌, ◌-◌, ◌*◌, ◌<◌, ◌≤◌, ℕ, zero, suc, List, [], ◌∷◌, ◌++◌, Option, Some, None, map, take, drop, length, get_or, slice_index, replicate, refl, ap, sym, ◌∙◌, arith}
+use Rattle.std.proofs.Common.{◌≡◌, ◌+◌, ◌-◌, ◌*◌, ◌<◌, ◌≤◌, ℕ, zero, suc, List, [], ◌∷◌, ◌++◌, Option, Some, None, map, take, drop, length, get_or, slice_index, replicate, refl, ap, sym, ◌∙◌, arith, add-one}
+use Rattle.std.specs.Prelude.{All, IfSome}
 use Rattle.std.specs.Option.{option_map_or}
+use Rattle.std.specs.List.{range_with_len}
+use Rattle.std.proofs.lemmas.List.Elements.{All-head, All-tail}
+use Rattle.std.proofs.lemmas.List.FromFn.{map-range_with_len_more}
+use Rattle.gold.specs.declared.instances.Table.{Table}
+use Rattle.mem_rows.specs.declared.access.TheConstants.{END}
 use Rattle.std.proofs.lemmas.List.{length-map, length-append}
 use Rattle.run_rows.specs.Tables.{padded, by_columns}
 use Rattle.mem_rows.specs.declared.access.Access.{Access}
 use Rattle.mem_rows.specs.declared.columns.Step.{Step}
-use Rattle.mem_rows.specs.Rows.{row, rows_behind}
+use Rattle.mem_rows.specs.Rows.{row, rows_behind, mem_table}
 use Rattle.mem_rows.specs.Columns.{step_of, steps_behind, one_on, last_from, columns_of}
 
 padded-cons : (n x : ℕ) (xs : List ℕ) → padded (suc n) (x ∷ xs) ≡ x ∷ padded n xs
@@ -72,3 +78,21 @@ pub last_from-suc : (k : ℕ) (p : Option Access) (xs : List Access) (d : Access
 last_from-suc k p [] d lt = absurd (omega arith)
 last_from-suc zero p (x ∷ xs) d lt = refl
 last_from-suc (suc k) p (x ∷ xs) d lt = last_from-suc k (Some x) xs d (omega arith)
+
+pub last_at : (xs : List Access) (start : ℕ) (d : Access) → (start ≡ 0 → ⊥) → start ≤ length xs → Some (get_or xs (start - 1) d) ≡ last_from None xs start
+last_at xs start d some le =
+    let e : start ≡ suc (start - 1) = omega (arith, add-one (start - 1)) in sym (ap (last_from None xs) e ∙ last_from-suc (start - 1) None xs d (omega arith))
+
+pub last_time : (p : Option Access) (xs : List Access) (k : ℕ) → IfSome p (λ (a : Access). a.time ≤ END) → All (λ (a : Access). a.time ≤ END) xs → IfSome (last_from p xs k) (λ (a : Access). a.time ≤ END)
+last_time p [] zero one all = one
+last_time p (x ∷ xs) zero one all = one
+last_time p [] (suc k) one all = one
+last_time p (x ∷ xs) (suc k) one all = last_time (Some x) xs k (All-head (λ (a : Access). a.time ≤ END) x xs all) (All-tail (λ (a : Access). a.time ≤ END) x xs all)
+
+pub length-steps : (p : Option Access) (xs : List Access) → length (steps_behind p xs) ≡ length xs
+length-steps p [] = refl
+length-steps p (a ∷ xs) = let e = length-steps (Some a) xs in omega arith
+
+pub table_more : (xs : List Access) (k : ℕ) (now new : List Table) (t : Table) → now ≡ map (mem_table xs) (range_with_len 0 k) → t ≡ mem_table xs k → new ≡ now ++ t ∷ [] → new ≡ map (mem_table xs) (range_with_len 0 (k + 1))
+table_more xs k now new t h e p =
+    p ∙ ap (λ x. now ++ x ∷ []) e ∙ ap (λ ts. ts ++ mem_table xs k ∷ []) h ∙ sym (map-range_with_len_more (mem_table xs) 0 k k (omega arith))

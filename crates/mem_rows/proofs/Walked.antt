@@ -1,5 +1,5 @@
 -- The lists of all keys, walked.
-use Rattle.std.proofs.Common.{◌≡◌, ◌≢◌, ◌↔◌, ◌+◌, ◌<◌, ◌≤◌, ◌⊎◌, inl, inr, ⊎_elim, ℕ, zero, suc, List, [], ◌∷◌, ◌++◌, map, take, length, get_or, refl, ap, sym, ◌∙◌, subst, arith, append_assoc}
+use Rattle.std.proofs.Common.{◌≡◌, ◌==◌, ◌≢◌, ◌↔◌, ◌+◌, ◌<◌, ◌≤◌, ◌⊎◌, inl, inr, ⊎_elim, ℕ, zero, suc, List, [], ◌∷◌, ◌++◌, map, take, length, get_or, refl, ap, sym, ◌∙◌, subst, arith, append_assoc}
 use Rattle.std.specs.Prelude.{All, Contains}
 use Rattle.std.specs.List.{flat_map, range_with_len}
 use Rattle.std.specs.Iterator.{YieldsFirst, Yields, Drains}
@@ -7,15 +7,18 @@ use Rattle.std.specs.List.Sorted.{IsStrictlyIncreasing}
 use Rattle.std.proofs.lemmas.Bool.{cases_lt}
 use Rattle.std.proofs.lemmas.Grind.{flat_map-append}
 use Rattle.std.proofs.lemmas.List.{append-nil, take_all, take_more}
-use Rattle.std.proofs.lemmas.List.Elements.{All-nil, All-append, All-same, Contains-get_or}
+use Rattle.std.proofs.lemmas.List.Elements.{All-nil, All-append, All-same, Contains-get_or, filter-append}
 use Rattle.std.proofs.lemmas.List.FromFn.{map-range_with_len_more}
 use Rattle.chain_pool.specs.Lists.{list_of}
 use Rattle.rv_model.specs.declared.answer.Public.{Public}
 use Rattle.mem_rows.specs.declared.access.Access.{Access}
 use Rattle.mem_rows.specs.declared.access.TheConstants.{END}
-use Rattle.mem_rows.specs.Accesses.{output_word}
+use Rattle.rv_model.specs.Image.{Img}
+use Rattle.gold.specs.declared.instances.Table.{Table}
+use Rattle.mem_rows.specs.Accesses.{output_word, last_reads, accesses, accesses_to}
+use Rattle.mem_rows.specs.Rows.{mem_tables, mem_tables_of}
 use Rattle.mem_rows.specs.Order.{of_key, key_end, in_order}
-use Rattle.mem_rows.specs.Kept.{Keeps, AreInReach}
+use Rattle.mem_rows.specs.Kept.{Keeps, KeepsTo, Adds, AreInReach}
 use Rattle.mem_rows.proofs.Order.{Ascends, Among, AreChains, chains_in_order}
 
 yielded : (s xs t : List Access) → Yields (YieldsFirst (λ (w : List Access). w)) s xs t → s ≡ xs ++ t
@@ -78,3 +81,9 @@ times_of lists (k ∷ ks) reach = All-append (λ (a : Access). a.time ≤ END) (
 
 pub all_times : (lists : List (ℕ × List Access)) (all : List Access) (items : List ℕ) (i : ℕ) → all ≡ flat_map (list_of lists) (take i items) → AreInReach lists → All (λ (a : Access). a.time ≤ END) all
 all_times lists all items i h reach = All-same (λ (a : Access). a.time ≤ END) all (flat_map (list_of lists) (take i items)) h (times_of lists (take i items) reach)
+
+pub finished : (image : Img) (n : ℕ) (public : Public) (lists new : List (ℕ × List Access)) → Adds lists new (last_reads public) → KeepsTo image n lists → Keeps new (accesses image n public)
+finished image n public lists new h keeps k = h k ∙ ap (λ l. l ++ of_key (last_reads public) k) (keeps k) ∙ sym (filter-append (λ (x : Access). x.key == k) (accesses_to image n) (last_reads public))
+
+pub run_tables : (image : Img) (n : ℕ) (public : Public) (all seen : List Access) (tables : List Table) → tables ≡ mem_tables_of seen → seen ≡ all → all ≡ in_order (accesses image n public) → tables ≡ mem_tables image n public
+run_tables image n public all seen tables e s h = e ∙ ap mem_tables_of (s ∙ h)

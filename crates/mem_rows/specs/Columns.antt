@@ -16,9 +16,11 @@ steps_behind p [] = []
 steps_behind p (a ∷ xs) = step_of p a ∷ steps_behind (Some a) xs
 
 -- the columns of the accesses' own
-abbrev pub own_columns : ℕ → List Access → List (List ℕ)
-own_columns rows xs = padded rows (map (λ (a : Access). 1) xs) ∷ padded rows (map (λ (a : Access). a.key) xs) ∷ padded rows (map (λ (a : Access). a.time) xs) ∷ padded rows (map (λ (a : Access). bit a.write) xs)
-    ∷ padded rows (map (λ (a : Access). low a.value) xs) ∷ padded rows (map (λ (a : Access). high a.value) xs) ∷ []
+abbrev pub access_columns : ℕ → List Access → List (List ℕ)
+access_columns rows xs = padded rows (map (λ (a : Access). 1) xs) ∷ padded rows (map (λ (a : Access). a.key) xs) ∷ padded rows (map (λ (a : Access). a.time) xs) ∷ []
+
+abbrev pub value_columns : ℕ → List Access → List (List ℕ)
+value_columns rows xs = padded rows (map (λ (a : Access). bit a.write) xs) ∷ padded rows (map (λ (a : Access). low a.value) xs) ∷ padded rows (map (λ (a : Access). high a.value) xs) ∷ []
 
 -- those of what they have to do with those before them
 abbrev pub step_columns : ℕ → List Step → List (List ℕ)
@@ -29,10 +31,12 @@ abbrev pub one_on : ℕ → List ℕ → List ℕ
 one_on first column = first ∷ take (length column - 1) column
 
 -- and those of the rows before
-abbrev pub before_columns : ℕ → Option Access → List Access → List (List ℕ)
-before_columns rows p xs = one_on (option_map_or (λ (a : Access). 1) p 0) (padded rows (map (λ (a : Access). 1) xs)) ∷ one_on (option_map_or (λ (a : Access). a.key) p 0) (padded rows (map (λ (a : Access). a.key) xs))
-    ∷ one_on (option_map_or (λ (a : Access). a.time) p 0) (padded rows (map (λ (a : Access). a.time) xs)) ∷ one_on (option_map_or (λ (a : Access). low a.value) p 0) (padded rows (map (λ (a : Access). low a.value) xs))
-    ∷ one_on (option_map_or (λ (a : Access). high a.value) p 0) (padded rows (map (λ (a : Access). high a.value) xs)) ∷ []
+abbrev pub access_before : ℕ → Option Access → List Access → List (List ℕ)
+access_before rows p xs = one_on (option_map_or (λ (a : Access). 1) p 0) (padded rows (map (λ (a : Access). 1) xs)) ∷ one_on (option_map_or (λ (a : Access). a.key) p 0) (padded rows (map (λ (a : Access). a.key) xs))
+    ∷ one_on (option_map_or (λ (a : Access). a.time) p 0) (padded rows (map (λ (a : Access). a.time) xs)) ∷ []
+
+abbrev pub value_before : ℕ → Option Access → List Access → List (List ℕ)
+value_before rows p xs = one_on (option_map_or (λ (a : Access). low a.value) p 0) (padded rows (map (λ (a : Access). low a.value) xs)) ∷ one_on (option_map_or (λ (a : Access). high a.value) p 0) (padded rows (map (λ (a : Access). high a.value) xs)) ∷ []
 
 -- the access before so many
 abbrev pub last_from : Option Access → List Access → ℕ → Option Access
@@ -42,4 +46,4 @@ last_from p (x ∷ xs) (suc k) = last_from (Some x) xs k
 
 -- all columns of an instance
 abbrev pub columns_of : ℕ → Option Access → List Access → List (List ℕ)
-columns_of rows p xs = own_columns rows xs ++ step_columns rows (steps_behind p xs) ++ before_columns rows p xs
+columns_of rows p xs = access_columns rows xs ++ value_columns rows xs ++ step_columns rows (steps_behind p xs) ++ access_before rows p xs ++ value_before rows p xs

@@ -126,6 +126,7 @@ impl Accesses {
         accesses.push_last(public)?;
         let all = accesses.ordered()?;
         drop(accesses);
-        tables_of(alloc, &all)
+        let tables = tables_of(alloc, &all)?;
+        Ok(tables)
     }
 }

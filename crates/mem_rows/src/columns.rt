@@ -6,7 +6,7 @@ ghost use Rattle.run_rows.specs.Tables.{padded};
 ghost use Rattle.mem_rows.specs.declared.access.Access.{Access as AnyAccess};
 ghost use Rattle.mem_rows.specs.declared.columns.Step.{Step as AnyStep};
 ghost use Rattle.mem_rows.specs.Rows.{bit, low, high, gap};
-ghost use Rattle.mem_rows.specs.Columns.{step_of, steps_behind, own_columns, step_columns, before_columns, columns_of};
+ghost use Rattle.mem_rows.specs.Columns.{step_of, steps_behind, access_columns, value_columns, step_columns, access_before, value_before, columns_of};
 
 use crate::Access;
 use crate::access::END;
@@ -98,10 +98,23 @@ fn kinds(alloc: Global, accesses: &[Access], rows: usize) -> Result<Column, Allo
     column(values, rows)
 }
 
-fn values_of(alloc: Global, accesses: &[Access]) -> Result<Vec<u64>, AllocError>
-    ensures { IfOk result (λ v. v.items ≡ map (λ (a : AnyAccess). a.value) accesses.now) }
+fn lows(alloc: Global, accesses: &[Access], rows: usize) -> Result<Column, AllocError>
+    requires { length accesses.now ≤ rows }
+    ensures { IfOk result (λ c. c ≡ padded rows (map (λ (a : AnyAccess). low a.value) accesses.now)) }
 {
-    accesses.iter().map(|a| a.value).collect(alloc)
+    let values = accesses
+        .iter()
+        .map(|a| a.value % (1 << 32))
+        .collect(alloc)?;
+    column(values, rows)
+}
+
+fn highs(alloc: Global, accesses: &[Access], rows: usize) -> Result<Column, AllocError>
+    requires { length accesses.now ≤ rows }
+    ensures { IfOk result (λ c. c ≡ padded rows (map (λ (a : AnyAccess). high a.value) accesses.now)) }
+{
+    let values = accesses.iter().map(|a| a.value >> 32).collect(alloc)?;
+    column(values, rows)
 }
 
 #[inline]
@@ -196,7 +209,7 @@ fn behind(alloc: Global, first: u64, column: &Column) -> Result<Column, AllocErr
 }
 
 // The columns of the accesses' own.
-fn push_own(
+fn push_accesses(
     alloc: Global,
     columns: &mut Columns,
     accesses: &[Access],
@@ -204,15 +217,26 @@ fn push_own(
 ) -> Result<(), AllocError>
     requires few { length accesses.now ≤ rows }
     requires times { All (λ (a : AnyAccess). a.time ≤ END) accesses.now }
-    ensures { OnOk result (columns.new ≡ columns.old ++ own_columns rows accesses.now) }
+    ensures { OnOk result (columns.new ≡ columns.old ++ access_columns rows accesses.now) }
 {
-    let values = values_of(alloc, accesses)?;
     columns.push(ones(alloc, accesses, rows)?)?;
     columns.push(keys(alloc, accesses, rows)?)?;
     columns.push(times(alloc, accesses, rows)?)?;
+    Ok(())
+}
+
+fn push_values(
+    alloc: Global,
+    columns: &mut Columns,
+    accesses: &[Access],
+    rows: usize,
+) -> Result<(), AllocError>
+    requires { length accesses.now ≤ rows }
+    ensures { OnOk result (columns.new ≡ columns.old ++ value_columns rows accesses.now) }
+{
     columns.push(kinds(alloc, accesses, rows)?)?;
-    columns.push(low_column(alloc, &values, rows)?)?;
-    columns.push(high_column(alloc, &values, rows)?)?;
+    columns.push(lows(alloc, accesses, rows)?)?;
+    columns.push(highs(alloc, accesses, rows)?)?;
     Ok(())
 }
 
@@ -271,7 +295,7 @@ fn cells_of(before: Option<Access>) -> Before
 }
 
 // The columns of the rows before.
-fn push_before(
+fn push_accesses_before(
     alloc: Global,
     columns: &mut Columns,
     before: Option<Access>,
@@ -282,19 +306,35 @@ fn push_before(
     requires few { length accesses.now ≤ rows }
     requires times { All (λ (a : AnyAccess). a.time ≤ END) accesses.now }
     requires before { IfSome before (λ (a : AnyAccess). a.time ≤ END) }
-    ensures { OnOk result (columns.new ≡ columns.old ++ before_columns rows before accesses.now) }
+    ensures { OnOk result (columns.new ≡ columns.old ++ access_before rows before accesses.now) }
 {
     let cells = cells_of(before);
-    let values = values_of(alloc, accesses)?;
-    let selected = behind(alloc, cells.one, &ones(alloc, accesses, rows)?)?;
-    columns.push(selected)?;
+    let of_ones = behind(alloc, cells.one, &ones(alloc, accesses, rows)?)?;
+    columns.push(of_ones)?;
     let of_keys = behind(alloc, cells.key, &keys(alloc, accesses, rows)?)?;
     columns.push(of_keys)?;
     let of_times = behind(alloc, cells.time, &times(alloc, accesses, rows)?)?;
     columns.push(of_times)?;
-    let of_lows = behind(alloc, cells.low, &low_column(alloc, &values, rows)?)?;
+    Ok(())
+}
+
+fn push_values_before(
+    alloc: Global,
+    columns: &mut Columns,
+    before: Option<Access>,
+    accesses: &[Access],
+    rows: usize,
+) -> Result<(), AllocError>
+    requires some { 0 < rows }
+    requires few { length accesses.now ≤ rows }
+    requires times { All (λ (a : AnyAccess). a.time ≤ END) accesses.now }
+    requires before { IfSome before (λ (a : AnyAccess). a.time ≤ END) }
+    ensures { OnOk result (columns.new ≡ columns.old ++ value_before rows before accesses.now) }
+{
+    let cells = cells_of(before);
+    let of_lows = behind(alloc, cells.low, &lows(alloc, accesses, rows)?)?;
     columns.push(of_lows)?;
-    let of_highs = behind(alloc, cells.high, &high_column(alloc, &values, rows)?)?;
+    let of_highs = behind(alloc, cells.high, &highs(alloc, accesses, rows)?)?;
     columns.push(of_highs)?;
     Ok(())
 }
@@ -314,8 +354,10 @@ pub fn columns_of(
 {
     let steps = steps_behind(alloc, before, accesses)?;
     let mut columns = Columns::new(alloc);
-    push_own(alloc, &mut columns, accesses, rows)?;
+    push_accesses(alloc, &mut columns, accesses, rows)?;
+    push_values(alloc, &mut columns, accesses, rows)?;
     push_steps(alloc, &mut columns, &steps, rows)?;
-    push_before(alloc, &mut columns, before, accesses, rows)?;
+    push_accesses_before(alloc, &mut columns, before, accesses, rows)?;
+    push_values_before(alloc, &mut columns, before, accesses, rows)?;
     Ok(columns)
 }

@@ -1,0 +1,8 @@
+use Rattle.std.proofs.Common.{◌≡◌, ℕ, List, inl, ap, ◌∙◌, arith}
+use Rattle.chain_pool.specs.Lists.{list_of}
+use Rattle.mem_rows.specs.declared.access.Access.{Access}
+use Rattle.mem_rows.proofs.Added.{none_of}
+use Rattle.mem_rows.proofs.initial.first_accesses.Goals as goal
+
+pub loop-segment-init : goal.loop-segment-init
+loop-segment-init c = record { part = λ q. inl (ap (λ (l : List (ℕ × List Access)). list_of l q) c.empty-accesses.ensures ∙ none_of q); written = λ j d lt. absurd (omega arith) }
