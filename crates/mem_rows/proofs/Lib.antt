@@ -3,3 +3,4 @@ pub mod Begun
 pub mod Cells
 pub mod Order
 pub mod Walked
+pub mod Covered
