@@ -7,13 +7,14 @@ use Rattle.std.proofs.lemmas.List.Elements.{All-head, All-tail}
 use Rattle.std.proofs.lemmas.List.FromFn.{map-range_with_len_more}
 use Rattle.gold.specs.declared.instances.Table.{Table}
 use Rattle.mem_rows.specs.declared.access.TheConstants.{END}
-use Rattle.std.proofs.lemmas.List.{length-map, length-append, length-take, length-replicate}
+use Rattle.std.proofs.lemmas.List.{length-map, length-append, length-take, length-replicate, take_all}
 use Rattle.run_rows.specs.Tables.{padded, by_columns}
 use Rattle.zk_layout.specs.Air.{air_number, rows_per}
-use Rattle.zk_layout.specs.declared.air.Air.TheVariants.{Mem}
+use Rattle.zk_layout.specs.declared.air.Air.TheVariants.{Mem, Out}
+use Rattle.rv_model.specs.declared.answer.Public.{Public}
 use Rattle.mem_rows.specs.declared.access.Access.{Access}
 use Rattle.mem_rows.specs.declared.columns.Step.{Step}
-use Rattle.mem_rows.specs.Rows.{row, rows_behind, mem_table, bit, low, high}
+use Rattle.mem_rows.specs.Rows.{row, rows_behind, mem_table, bit, low, high, final_values, out_table}
 use Rattle.mem_rows.specs.Columns.{step_of, steps_behind, one_on, last_from, columns_of}
 
 padded-cons : (n x : ℕ) (xs : List ℕ) → padded (suc n) (x ∷ xs) ≡ x ∷ padded n xs
@@ -235,3 +236,30 @@ table_is xs own i number rows start p cols a r some s le o b e =
     let cells : cols ≡ by_columns 15 rows (take rows (drop (i * rows) (rows_behind None xs))) =
       e ∙ ap (λ q. columns_of rows q own) b ∙ ap (columns_of rows (last_from None xs start)) o ∙ sym at ∙ ap (λ l. by_columns 15 rows (take rows l)) (sym (drop_rows start None xs le)) ∙ ap (λ k. by_columns 15 rows (take rows (drop k (rows_behind None xs)))) s in
     ap (λ k. record { air = k; instance = i; columns = cols }) a ∙ ap (λ l. record { air = air_number Mem; instance = i; columns = l }) (cells ∙ ap (λ m. by_columns 15 m (take m (drop (i * m) (rows_behind None xs)))) r)
+
+-- ---- Out
+map_limb : (f : ℕ → ℕ) (g : ℕ → List ℕ) (c : ℕ) → ((v : ℕ) → slice_index (g v) c ≡ f v) → (vs : List ℕ) → map (λ r. slice_index r c) (map g vs) ≡ map f vs
+map_limb f g c h [] = refl
+map_limb f g c h (v ∷ vs) = both (slice_index (g v) c) (f v) (map (λ r. slice_index r c) (map g vs)) (map f vs) (h v) (map_limb f g c h vs)
+
+out_rows : (n : ℕ) (vs : List ℕ) → length vs ≤ n → take n (drop (0 * n) (map (λ v. low v ∷ high v ∷ []) vs)) ≡ map (λ v. low v ∷ high v ∷ []) vs
+out_rows n vs le =
+    let z : 0 * n ≡ 0 = omega arith in
+    let few : length (map (λ v. low v ∷ high v ∷ []) vs) ≤ n = omega (arith, length-map vs (λ v. low v ∷ high v ∷ [])) in
+    ap (λ k. take n (drop k (map (λ v. low v ∷ high v ∷ []) vs))) z ∙ take_all n (map (λ v. low v ∷ high v ∷ []) vs) few
+
+pub out_columns : (n : ℕ) (vs : List ℕ) → length vs ≤ n → by_columns 2 n (take n (drop (0 * n) (map (λ v. low v ∷ high v ∷ []) vs))) ≡ padded n (map low vs) ∷ padded n (map high vs) ∷ []
+out_columns n vs le =
+    ap (by_columns 2 n) (out_rows n vs le)
+    ∙ both _ _ _ _ (ap (padded n) (map_limb low (λ v. low v ∷ high v ∷ []) 0 (λ v. refl) vs)) (both _ _ _ _ (ap (padded n) (map_limb high (λ v. low v ∷ high v ∷ []) 1 (λ v. refl) vs)) refl)
+
+out_length : (public : Public) → length (final_values public) ≡ 33
+out_length public = refl
+
+pub out_is : (public : Public) (number rows : ℕ) (values seen again : List ℕ) (none one two : List (List ℕ)) (lo hi : List ℕ) → number ≡ air_number Out → rows ≡ rows_per Out → 64 ≤ rows → values ≡ final_values public → seen ≡ values → again ≡ values
+    → none ≡ [] → lo ≡ padded rows (map low seen) → one ≡ none ++ lo ∷ [] → hi ≡ padded rows (map high again) → two ≡ one ++ hi ∷ [] → ◌≡◌ {A = Table} (record { air = number; instance = 0; columns = two }) (out_table public)
+out_is public number rows values seen again none one two lo hi a r least v s g n l o h t =
+    let few : length (final_values public) ≤ rows = let e = out_length public in omega arith in
+    let cells : two ≡ by_columns 2 rows (take rows (drop (0 * rows) (map (λ v. low v ∷ high v ∷ []) (final_values public)))) =
+      t ∙ ap (λ xs. xs ++ hi ∷ []) (o ∙ ap (λ xs. xs ++ lo ∷ []) n) ∙ both _ _ _ _ (l ∙ ap (λ xs. padded rows (map low xs)) (s ∙ v)) (both _ _ _ _ (h ∙ ap (λ xs. padded rows (map high xs)) (g ∙ v)) refl) ∙ sym (out_columns rows (final_values public) few) in
+    ap (λ k. record { air = k; instance = 0; columns = two }) a ∙ ap (λ c. record { air = air_number Out; instance = 0; columns = c }) (cells ∙ ap (λ m. by_columns 2 m (take m (drop (0 * m) (map (λ v. low v ∷ high v ∷ []) (final_values public))))) r)
