@@ -7,7 +7,7 @@ use Rattle.std.proofs.lemmas.List.Elements.{All-head, All-tail}
 use Rattle.std.proofs.lemmas.List.FromFn.{map-range_with_len_more}
 use Rattle.gold.specs.declared.instances.Table.{Table}
 use Rattle.mem_rows.specs.declared.access.TheConstants.{END}
-use Rattle.std.proofs.lemmas.List.{length-map, length-append, length-take, length-replicate, take_all}
+use Rattle.std.proofs.lemmas.List.{length-map, length-append, length-take, length-drop, length-replicate, take_all}
 use Rattle.run_rows.specs.Tables.{padded, by_columns}
 use Rattle.zk_layout.specs.Air.{air_number, rows_per}
 use Rattle.zk_layout.specs.declared.air.Air.TheVariants.{Mem, Out}
@@ -263,3 +263,6 @@ out_is public number rows values seen again none one two lo hi a r least v s g n
     let cells : two ≡ by_columns 2 rows (take rows (drop (0 * rows) (map (λ v. low v ∷ high v ∷ []) (final_values public)))) =
       t ∙ ap (λ xs. xs ++ hi ∷ []) (o ∙ ap (λ xs. xs ++ lo ∷ []) n) ∙ both _ _ _ _ (l ∙ ap (λ xs. padded rows (map low xs)) (s ∙ v)) (both _ _ _ _ (h ∙ ap (λ xs. padded rows (map high xs)) (g ∙ v)) refl) ∙ sym (out_columns rows (final_values public) few) in
     ap (λ k. record { air = k; instance = 0; columns = two }) a ∙ ap (λ c. record { air = air_number Out; instance = 0; columns = c }) (cells ∙ ap (λ m. by_columns 2 m (take m (drop (0 * m) (map (λ v. low v ∷ high v ∷ []) (final_values public))))) r)
+
+pub rest_is : (xs : List Access) (start : ℕ) → take (length xs - start) (drop start xs) ≡ drop start xs
+rest_is xs start = take_all (length xs - start) (drop start xs) (omega (arith, length-drop start xs))
