@@ -46,7 +46,7 @@ put_reach old new a at low reach up =
     record {
       keys = λ k h. more k ∙ ap (λ l. list_of old k ++ l) (one_off a k (λ e. omega arith)) ∙ append-nil (list_of old k) ∙ reach.keys k h;
       times = λ k. All-same P (list_of new k) (list_of old k ++ of_key (a ∷ []) k) (more k)
-        (All-append P (list_of old k) (of_key (a ∷ []) k) (reach.times k) (All-filter (λ (x : Access). x.key == k) P (a ∷ []) (All-cons P a [] at (All-nil P))));
+          (All-append P (list_of old k) (of_key (a ∷ []) k) (reach.times k) (All-filter (λ (x : Access). x.key == k) P (a ∷ []) (All-cons P a [] at (All-nil P))));
     }
 
 pub adds_none : (lists : List (ℕ × List Access)) → Adds lists lists []

@@ -31,7 +31,7 @@ written image old new k v low is some none part adds =
     let same : (q : ℕ) → (k ≡ q → ⊥) → list_of new q ≡ list_of old q = λ q ne. adds q ∙ ap (λ l. list_of old q ++ l) (off k v q ne) ∙ append-nil (list_of old q) in
     record {
       part = λ q. ⊎_elim (λ e. inr (subst (λ j. j < doublewords) e (below_all k low), at q e))
-        (λ ne. ⊎_elim (λ none. inl (same q ne ∙ none)) (λ (low', is'). inr (low', same q ne ∙ is')) (part q)) (cases_eq k q);
+          (λ ne. ⊎_elim (λ none. inl (same q ne ∙ none)) (λ (low', is'). inr (low', same q ne ∙ is')) (part q)) (cases_eq k q);
       done = λ q from to. at q (omega arith);
       still = λ q was. ⊎_elim (at q) (λ ne. same q ne ∙ was) (cases_eq k q);
     }
@@ -41,7 +41,7 @@ pub unwritten : (image : Img) (lists : List (ℕ × List Access)) (k v : ℕ) �
 unwritten image lists k v is or part =
     let zero_first : v ≡ 0 → first_write image k ≡ [] = λ z. let yes : (initial_word image k == 0) ≡ true = eq-eqb (initial_word image k) 0 (sym is ∙ z) in rw yes refl in
     let at_k : list_of lists k ≡ first_write image k =
-      ⊎_elim (λ none. ⊎_elim (λ z. none ∙ sym (zero_first z)) (λ ne. absurd (ne none)) or) (λ (low, done). done) (part k) in
+    ⊎_elim (λ none. ⊎_elim (λ z. none ∙ sym (zero_first z)) (λ ne. absurd (ne none)) or) (λ (low, done). done) (part k) in
     record {
       part = part;
       done = λ q from to. let e : k ≡ q = omega arith in ap (list_of lists) (sym e) ∙ at_k ∙ ap (first_write image) e;
@@ -60,7 +60,6 @@ range_more image a b c from k w v = record {
 
 pub range_done : (image : Img) (a b : List (ℕ × List Access)) (from k to : ℕ) → to ≤ k → Writes image a b from k → Writes image a b from to
 range_done image a b from k to le w = record { part = w.part; done = λ q low high. w.done q low (omega arith); still = w.still }
-
 
 -- ---- all of them
 two_to_29 : doublewords ≡ 2 ^ 29
@@ -94,7 +93,7 @@ writes_at image low zero k le lt = absurd (omega arith)
 writes_at image low (suc n) k le lt =
     filter-append (λ (a : Access). a.key == k) (first_write image low) (writes_from image (low + 1) n) ∙ ⊎_elim
     (λ e. ap (λ l. l ++ of_key (writes_from image (low + 1) n) k) (own_write low k (initial_word image low) (initial_word image low == 0) e)
-      ∙ ap (λ l. first_write image low ++ l) (writes_off image (low + 1) n k (inl (omega arith))) ∙ append-nil (first_write image low) ∙ ap (first_write image) e)
+    ∙ ap (λ l. first_write image low ++ l) (writes_off image (low + 1) n k (inl (omega arith))) ∙ append-nil (first_write image low) ∙ ap (first_write image) e)
     (λ ne. ap (λ l. l ++ of_key (writes_from image (low + 1) n) k) (other_write low k (initial_word image low) (initial_word image low == 0) ne) ∙ writes_at image (low + 1) n k (omega arith) (omega arith)) (cases_eq low k)
 
 all_writes : (image : Img) → first_writes image ≡ writes_from image 0 doublewords
@@ -111,7 +110,7 @@ begun image lists part done q =
     let all : of_key (accesses_to image 0) q ≡ of_key (writes_from image 0 doublewords) q = ap (λ l. of_key l q) (none_more image ∙ all_writes image) in
     ⊎_elim
     (λ low.
-      let at : of_key (writes_from image 0 doublewords) q ≡ first_write image q = writes_at image 0 doublewords q (omega arith) (omega arith) in
-      let zero_write : initial_word image q ≡ 0 → first_write image q ≡ [] = λ z. let yes : (initial_word image q == 0) ≡ true = eq-eqb (initial_word image q) 0 z in rw yes refl in
-      ⊎_elim (λ z. ⊎_elim (λ none. none ∙ sym (zero_write z)) (λ (l, is). is) (part q)) (λ is. is) (done q low) ∙ sym at ∙ sym all)
+    let at : of_key (writes_from image 0 doublewords) q ≡ first_write image q = writes_at image 0 doublewords q (omega arith) (omega arith) in
+    let zero_write : initial_word image q ≡ 0 → first_write image q ≡ [] = λ z. let yes : (initial_word image q == 0) ≡ true = eq-eqb (initial_word image q) 0 z in rw yes refl in
+    ⊎_elim (λ z. ⊎_elim (λ none. none ∙ sym (zero_write z)) (λ (l, is). is) (part q)) (λ is. is) (done q low) ∙ sym at ∙ sym all)
     (λ high. ⊎_elim (λ none. none) (λ (low, is). absurd (omega arith)) (part q) ∙ sym (writes_off image 0 doublewords q (inr (omega arith))) ∙ sym all) (cases_lt q (2 ^ 29))

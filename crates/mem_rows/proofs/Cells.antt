@@ -231,10 +231,10 @@ pub table_is : (xs own : List Access) (i number rows start : ℕ) (p : Option Ac
 table_is xs own i number rows start p cols a r some s le o b e =
     let suc_rows : rows ≡ suc (rows - 1) = omega (arith, add-one (rows - 1)) in
     let at : by_columns 15 rows (take rows (rows_behind (last_from None xs start) (drop start xs))) ≡ columns_of rows (last_from None xs start) (take rows (drop start xs)) =
-      let P : ℕ → Type 0 = λ m. by_columns 15 m (take m (rows_behind (last_from None xs start) (drop start xs))) ≡ columns_of m (last_from None xs start) (take m (drop start xs)) in
-      subst P (sym suc_rows) (columns_are (rows - 1) (last_from None xs start) (drop start xs)) in
+    let P : ℕ → Type 0 = λ m. by_columns 15 m (take m (rows_behind (last_from None xs start) (drop start xs))) ≡ columns_of m (last_from None xs start) (take m (drop start xs)) in
+    subst P (sym suc_rows) (columns_are (rows - 1) (last_from None xs start) (drop start xs)) in
     let cells : cols ≡ by_columns 15 rows (take rows (drop (i * rows) (rows_behind None xs))) =
-      e ∙ ap (λ q. columns_of rows q own) b ∙ ap (columns_of rows (last_from None xs start)) o ∙ sym at ∙ ap (λ l. by_columns 15 rows (take rows l)) (sym (drop_rows start None xs le)) ∙ ap (λ k. by_columns 15 rows (take rows (drop k (rows_behind None xs)))) s in
+    e ∙ ap (λ q. columns_of rows q own) b ∙ ap (columns_of rows (last_from None xs start)) o ∙ sym at ∙ ap (λ l. by_columns 15 rows (take rows l)) (sym (drop_rows start None xs le)) ∙ ap (λ k. by_columns 15 rows (take rows (drop k (rows_behind None xs)))) s in
     ap (λ k. record { air = k; instance = i; columns = cols }) a ∙ ap (λ l. record { air = air_number Mem; instance = i; columns = l }) (cells ∙ ap (λ m. by_columns 15 m (take m (drop (i * m) (rows_behind None xs)))) r)
 
 -- ---- Out
@@ -261,7 +261,7 @@ pub out_is : (public : Public) (number rows : ℕ) (values seen again : List ℕ
 out_is public number rows values seen again none one two lo hi a r least v s g n l o h t =
     let few : length (final_values public) ≤ rows = let e = out_length public in omega arith in
     let cells : two ≡ by_columns 2 rows (take rows (drop (0 * rows) (map (λ v. low v ∷ high v ∷ []) (final_values public)))) =
-      t ∙ ap (λ xs. xs ++ hi ∷ []) (o ∙ ap (λ xs. xs ++ lo ∷ []) n) ∙ both _ _ _ _ (l ∙ ap (λ xs. padded rows (map low xs)) (s ∙ v)) (both _ _ _ _ (h ∙ ap (λ xs. padded rows (map high xs)) (g ∙ v)) refl) ∙ sym (out_columns rows (final_values public) few) in
+    t ∙ ap (λ xs. xs ++ hi ∷ []) (o ∙ ap (λ xs. xs ++ lo ∷ []) n) ∙ both _ _ _ _ (l ∙ ap (λ xs. padded rows (map low xs)) (s ∙ v)) (both _ _ _ _ (h ∙ ap (λ xs. padded rows (map high xs)) (g ∙ v)) refl) ∙ sym (out_columns rows (final_values public) few) in
     ap (λ k. record { air = k; instance = 0; columns = two }) a ∙ ap (λ c. record { air = air_number Out; instance = 0; columns = c }) (cells ∙ ap (λ m. by_columns 2 m (take m (drop (0 * m) (map (λ v. low v ∷ high v ∷ []) (final_values public))))) r)
 
 pub rest_is : (xs : List Access) (start : ℕ) → take (length xs - start) (drop start xs) ≡ drop start xs

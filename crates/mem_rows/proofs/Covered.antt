@@ -28,10 +28,10 @@ segments_covered image lists q [] w a at = inl refl
 segments_covered image lists q (s ∷ ss) w a at =
     let rest = segments_covered image lists q ss (λ j d lt. w (suc j) d (omega arith)) a at in
     let found : (b : Bool) → has a s ≡ b → (segment_byte (s ∷ ss) a ≡ 0) ⊎ Done image lists q =
-      λ b. elim b as (λ v. has a s ≡ v → (segment_byte (s ∷ ss) a ≡ 0) ⊎ Done image lists q) [
-        | true ↦ λ e. rw e (byte_covered image lists q s a at (started s a e) (w 0 s (omega arith)))
-        | false ↦ λ e. rw e rest
-      ] in
+    λ b. elim b as (λ v. has a s ≡ v → (segment_byte (s ∷ ss) a ≡ 0) ⊎ Done image lists q) [
+      | true ↦ λ e. rw e (byte_covered image lists q s a at (started s a e) (w 0 s (omega arith)))
+      | false ↦ λ e. rw e rest
+    ] in
     found (has a s) refl
 
 window_covered : (image : Img) (lists : List (ℕ × List Access)) (q : ℕ) → ((k : ℕ) → 0x0800_0000 ≤ k → k < 0x0800_0000 + length image.input / 8 + 2 → Done image lists k) → (a : ℕ) → a / 8 ≡ q → input_start ≤ a
@@ -51,10 +51,10 @@ covered : (image : Img) (lists : List (ℕ × List Access)) → AreWritten image
 unfolding initial_byte
 covered image lists w q a at =
     let chosen : (b : Bool) → (nat_le input_start a && nat_lt a input_end) ≡ b → (cond b (window_byte image.input (a - input_start)) (segment_byte image.segments a) ≡ 0) ⊎ Done image lists q =
-      λ b. elim b as (λ v. (nat_le input_start a && nat_lt a input_end) ≡ v → (cond v (window_byte image.input (a - input_start)) (segment_byte image.segments a) ≡ 0) ⊎ Done image lists q) [
-        | true ↦ λ e. window_covered image lists q w.input a at (in_window a e)
-        | false ↦ λ e. segments_covered image lists q image.segments w.segments a at
-      ] in
+    λ b. elim b as (λ v. (nat_le input_start a && nat_lt a input_end) ≡ v → (cond v (window_byte image.input (a - input_start)) (segment_byte image.segments a) ≡ 0) ⊎ Done image lists q) [
+      | true ↦ λ e. window_covered image lists q w.input a at (in_window a e)
+      | false ↦ λ e. segments_covered image lists q image.segments w.segments a at
+    ] in
     chosen (nat_le input_start a && nat_lt a input_end) refl
 
 zero_word : (image : Img) (q : ℕ) → ((i : ℕ) → i < 8 → initial_byte image (8 * q + i) ≡ 0) → initial_word image q ≡ 0

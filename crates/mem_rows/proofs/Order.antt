@@ -70,4 +70,3 @@ pub chains_in_order : (xs : List Access) (chain : ℕ → List Access) (keys : L
 unfolding in_order
 chains_in_order xs chain keys are =
     flat_same chain (of_key xs) are.each keys ∙ chains_from xs 0 key_end key_end (omega arith) keys are.up (λ k le off. sym (are.each k) ∙ are.none k off) ∙ all_keys xs key_end
-

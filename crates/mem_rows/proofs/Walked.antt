@@ -43,9 +43,11 @@ key_more lists keys i all new walk lt h w n =
 ascends : (keys : List ℕ) (low : ℕ) → IsStrictlyIncreasing keys → ((i : ℕ) → i < length keys → get_or keys i 0 < key_end) → (0 < length keys → low ≤ get_or keys 0 0) → Ascends low key_end keys
 ascends [] low up below from = tt
 ascends (k ∷ []) low up below from = (from (omega arith), below 0 (omega arith), tt)
-ascends (k ∷ j ∷ js) low up below from =
-    (from (omega arith), below 0 (omega arith),
-     ascends (j ∷ js) (k + 1) (λ i lt. let e : suc i + 1 ≡ suc (i + 1) = omega arith in let P : ℕ → Type 0 = λ m. get_or (j ∷ js) i 0 < get_or (k ∷ j ∷ js) m 0 in subst P e (up (suc i) (omega arith))) (λ i lt. below (suc i) (omega arith)) (λ some. let h : k < j = up 0 (omega arith) in omega arith))
+ascends (k ∷ j ∷ js) low up below from = (
+  from (omega arith),
+  below 0 (omega arith),
+  ascends (j ∷ js) (k + 1) (λ i lt. let e : suc i + 1 ≡ suc (i + 1) = omega arith in let P : ℕ → Type 0 = λ m. get_or (j ∷ js) i 0 < get_or (k ∷ j ∷ js) m 0 in subst P e (up (suc i) (omega arith))) (λ i lt. below (suc i) (omega arith)) (λ some. let h : k < j = up 0 (omega arith) in omega arith),
+)
 
 among : (keys : List ℕ) (k i : ℕ) → i < length keys → get_or keys i k ≡ k → Among k keys
 among [] k i lt e = absurd (omega arith)
@@ -63,8 +65,8 @@ pub record AreKeys (lists : List (ℕ × List Access)) (keys : List ℕ) : Type 
 chains : (lists : List (ℕ × List Access)) (keys : List ℕ) (xs : List Access) → AreKeys lists keys → AreInReach lists → Keeps lists xs → AreChains xs (list_of lists) keys
 chains lists keys xs are reach keeps = record {
   up = ascends keys 0 are.rising
-    (λ i lt. ⊎_elim (λ low. low) (λ high. absurd ((are.exact (get_or keys i 0)).0 (Contains-get_or keys i 0 lt) (reach.keys (get_or keys i 0) high))) (cases_lt (get_or keys i 0) key_end))
-    (λ some. omega arith);
+      (λ i lt. ⊎_elim (λ low. low) (λ high. absurd ((are.exact (get_or keys i 0)).0 (Contains-get_or keys i 0 lt) (reach.keys (get_or keys i 0) high))) (cases_lt (get_or keys i 0) key_end))
+      (λ some. omega arith);
   each = keeps;
   none = λ k off. none_if (list_of lists k) (λ some. let at = (are.exact k).1 some in off (among keys k at.0 at.1 at.2));
 }

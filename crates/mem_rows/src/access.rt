@@ -1,8 +1,8 @@
 //! An access to memory or to a register.
-use rv_word::Reg;
-
 ghost use Rattle.std.specs.Prelude.{◌≡◌, ◌≤◌, ◌<◌};
 ghost use Rattle.mem_rows.specs.Accesses.{register, time};
+
+use rv_word::Reg;
 
 /// The key of x0. A doubleword's key is its number, which is its byte address divided by 8, and the keys of registers follow.
 pub const REGISTERS: u32 = 1 << 29;

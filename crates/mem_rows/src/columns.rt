@@ -102,10 +102,7 @@ fn lows(alloc: Global, accesses: &[Access], rows: usize) -> Result<Column, Alloc
     requires { length accesses.now ≤ rows }
     ensures { IfOk result (λ c. c ≡ padded rows (map (λ (a : AnyAccess). low a.value) accesses.now)) }
 {
-    let values = accesses
-        .iter()
-        .map(|a| a.value % (1 << 32))
-        .collect(alloc)?;
+    let values = accesses.iter().map(|a| a.value % (1 << 32)).collect(alloc)?;
     column(values, rows)
 }
 
@@ -180,10 +177,7 @@ fn middle_gaps(alloc: Global, steps: &[Step], rows: usize) -> Result<Column, All
     requires { length steps.now ≤ rows }
     ensures { IfOk result (λ c. c ≡ padded rows (map (λ (s : AnyStep). s.gap / 65536 % 65536) steps.now)) }
 {
-    let values = steps
-        .iter()
-        .map(|s| s.gap / 65536 % 65536)
-        .collect(alloc)?;
+    let values = steps.iter().map(|s| s.gap / 65536 % 65536).collect(alloc)?;
     column(values, rows)
 }
 
