@@ -14,7 +14,7 @@ use Rattle.std.proofs.lemmas.List.Sorted.{sorted_far, ranks_by}
 use Rattle.pil_ast.specs.Holds.{times}
 use Rattle.pil_ast.specs.Broken.{ComesBefore}
 use Rattle.bus_check.specs.Bus.{Ascend, IsLeast, PartAt}
-use Rattle.bus_check.proofs.Times.{is_one, times-cons, times-nil, times-here, times-nowhere, same_self}
+use Rattle.pil_laws.proofs.Times.{is_one, times_cons, times_none, times_here, times_nowhere, same_self}
 
 -- no tuple is less than one before it
 abbrev pub Rises : List (List ℕ) → Type 0
@@ -40,7 +40,7 @@ before-through u x y Greater e h b = nat_list_cmp_total.trans u x y b (nat_list_
 
 -- what comes before the first tuple isn't in the list
 before-all : (u x : List ℕ) (xs : List (List ℕ)) → Rises (x ∷ xs) → ComesBefore u x → times u (x ∷ xs) ≡ 0
-before-all u x xs up b = times-nowhere u (x ∷ xs) (λ k d l. before-other _ u (before-through u x _ _ refl (up 0 k d (omega arith) l) b))
+before-all u x xs up b = times_nowhere u (x ∷ xs) (λ k d l. before-other _ u (before-through u x _ _ refl (up 0 k d (omega arith) l) b))
 
 pub least-sym : (xs ys : List (List ℕ)) (t : List ℕ) → IsLeast xs ys t → IsLeast ys xs t
 least-sym xs ys t h = record { differ = λ e. h.differ (sym e); first = λ u b. sym (h.first u b) }
@@ -48,13 +48,13 @@ least-sym xs ys t h = record { differ = λ e. h.differ (sym e); first = λ u b. 
 least-cons : (x y : List ℕ) (xs ys : List (List ℕ)) (t : List ℕ) → x ≡ y → IsLeast xs ys t → IsLeast (x ∷ xs) (y ∷ ys) t
 least-cons x y xs ys t e h = record {
   differ = λ w. h.differ (
-      let a = times-cons t x xs in
-      let b = times-cons t y ys in
+      let a = times_cons t x xs in
+      let b = times_cons t y ys in
       let k = ap (λ z. is_one (bytes_eq z t)) e in
       omega arith);
   first = λ u l.
-      let a = times-cons u x xs in
-      let b = times-cons u y ys in
+      let a = times_cons u x xs in
+      let b = times_cons u y ys in
       let k = ap (λ z. is_one (bytes_eq z u)) e in
       let w = h.first u l in
       omega arith;
@@ -63,12 +63,12 @@ least-cons x y xs ys t e h = record {
 -- the first tuple of one list, where the other list is empty or begins with a greater one
 least-first : (x : List ℕ) (xs ys : List (List ℕ)) → Rises (x ∷ xs) → Rises ys → ((d : List ℕ) → 0 < length ys → ComesBefore x (get_or ys 0 d)) → IsLeast (x ∷ xs) ys x
 least-first x xs [] up down h = record {
-  differ = λ w. let a = times-here x x xs (same_self x) in let b = times-nil x in omega arith;
-  first = λ u l. before-all u x xs up l ∙ sym (times-nil u);
+  differ = λ w. let a = times_here x x xs (same_self x) in let b = times_none x in omega arith;
+  first = λ u l. before-all u x xs up l ∙ sym (times_none u);
 }
 least-first x xs (y ∷ ys) up down h =
     let b : ComesBefore x y = h x (omega arith) in record {
-      differ = λ w. let a = times-here x x xs (same_self x) in let z = before-all x y ys down b in omega arith;
+      differ = λ w. let a = times_here x x xs (same_self x) in let z = before-all x y ys down b in omega arith;
       first = λ u l. before-all u x xs up l ∙ sym (before-all u y ys down (nat_list_cmp_total.trans u x y l b));
     }
 
@@ -87,8 +87,8 @@ often-same [] [] l same t = refl
 often-same [] (y ∷ ys) l same t = absurd (omega arith)
 often-same (x ∷ xs) [] l same t = absurd (omega arith)
 often-same (x ∷ xs) (y ∷ ys) l same t =
-    let a = times-cons t x xs in
-    let b = times-cons t y ys in
+    let a = times_cons t x xs in
+    let b = times_cons t y ys in
     let k = ap (λ z. is_one (bytes_eq z t)) (same 0 x (omega arith)) in
     let w = often-same xs ys (omega arith) (λ k d q. same (suc k) d (omega arith)) t in
     omega arith

@@ -17,7 +17,8 @@ use Rattle.std.proofs.lemmas.Map.Lookups.{exact_bytes}
 use Rattle.std.proofs.lemmas.Map.Text.{is_eq-slice_cmp}
 use Rattle.pil_ast.specs.Holds.{times}
 use Rattle.bus_check.specs.Bus.{numbers, Ascend}
-use Rattle.bus_check.proofs.Times.{times-nowhere, times-somewhere, numbers-long}
+use Rattle.pil_laws.proofs.Times.{times_nowhere, times_somewhere}
+use Rattle.bus_check.proofs.Times.{numbers-long}
 
 -- the order in which the vectors stand
 abbrev pub Stand : List (Vec ℕ) → Type 0
@@ -45,15 +46,15 @@ pub found : (vs : List (Vec ℕ)) (x : List ℕ) (i : ℕ) → i < length vs →
 found [] x i l h = absurd (omega arith)
 found (v ∷ vs) x i l h =
     let long = numbers-long (v ∷ vs) in
-    times-somewhere x (numbers (v ∷ vs)) i v.items (omega arith) (get_or-map (λ v. v.items) (v ∷ vs) i v ∙ exact_bytes _ x (h v))
+    times_somewhere x (numbers (v ∷ vs)) i v.items (omega arith) (get_or-map (λ v. v.items) (v ∷ vs) i v ∙ exact_bytes _ x (h v))
 
 -- what isn't found is nowhere in it
 pub missed : (vs : List (Vec ℕ)) (x : List ℕ) (i : ℕ) → Ascend (numbers vs) → IsBinarySearchResult (λ v. slice_cmp nat_cmp v.items x) vs (Err i) → times x (numbers vs) ≡ 0
-missed [] x i up h = times-nowhere x [] (λ k d l. absurd (omega arith))
+missed [] x i up h = times_nowhere x [] (λ k d l. absurd (omega arith))
 missed (v ∷ vs) x i up h =
     let long = numbers-long (v ∷ vs) in
     let part = h (searchable_from_sorted nat_list_cmp_total (λ v. v.items) (v ∷ vs) x (ascend-to (v ∷ vs) up)) in
-    times-nowhere x (numbers (v ∷ vs)) (λ k d l.
+    times_nowhere x (numbers (v ∷ vs)) (λ k d l.
     let at = get_or-map_within (λ v. v.items) (v ∷ vs) k v d (omega arith) in
     ap (λ y. bytes_eq y x) at ∙ sym (is_eq-slice_cmp (get_or (v ∷ vs) k v).items x) ∙
     elim (cases_lt k i) [

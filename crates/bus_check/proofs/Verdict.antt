@@ -1,5 +1,5 @@
 -- Each line holds, or is broken first at one place or by one tuple.
-use Rattle.std.proofs.Common.{ℕ, zero, suc, ◌+◌, ◌-◌, ◌<◌, ◌≤◌, ◌≡◌, ◌≢◌, ◌⊎◌, inl, inr, Bool, true, false, List, [], ◌∷◌, ◌++◌, length, refl, sym, ap, subst, ◌∙◌, arith}
+use Rattle.std.proofs.Common.{ℕ, zero, suc, ◌+◌, ◌-◌, ◌<◌, ◌≡◌, ◌≢◌, ◌⊎◌, inl, inr, Bool, true, false, List, [], ◌∷◌, ◌++◌, length, refl, sym, ap, subst, ◌∙◌, arith}
 use Rattle.std.proofs.lemmas.Bool.{cases_lt, true≢false}
 use Rattle.std.specs.Str.{bytes_eq}
 use Rattle.std.specs.Ordering.{nat_cmp, ordering_reverse}
@@ -9,7 +9,7 @@ use Rattle.std.specs.Cmp.Lexicographic.{slice_cmp}
 use Rattle.std.proofs.lemmas.Cmp.{nat_list_cmp_total}
 use Rattle.std.proofs.lemmas.Map.Lookups.{exact_bytes}
 use Rattle.std.proofs.lemmas.Slice.Eq.{bytes_eq-Decides}
-use Rattle.pil_ast.specs.Term.{Term, Tuples, Line, constant, commit, inter, published, identity, lookup, bus, Namespace, item_at}
+use Rattle.pil_ast.specs.Term.{Line, constant, commit, inter, published, identity, lookup, bus, Namespace, item_at}
 use Rattle.pil_ast.specs.Columns.{Columns}
 use Rattle.pil_ast.specs.Value.{value_in}
 use Rattle.pil_ast.specs.Holds.{EqualAt, FoundAt, AtEachRow, AsOften, Holds, AllHold, selected, tuple, sent, all_sent, times, lines}
@@ -17,8 +17,8 @@ use Rattle.pil_ast.specs.Broken.{FailsFirst, BreaksAt, ComesBefore, DiffersFirst
 use Rattle.row_check.specs.declared.broken.Broken.{Broken}
 use Rattle.row_check.specs.declared.broken.Broken.TheVariants.{At, Counts}
 use Rattle.row_check.specs.Breaks.{IsBreakOf, IsBreak, IsFirstBroken, line_of}
-use Rattle.bus_check.proofs.Times.{times-append, times-nil, times-other}
-use Rattle.bus_check.proofs.InText.{all-hold}
+use Rattle.pil_laws.proofs.Times.{times_append, times_none, times_other}
+use Rattle.pil_laws.proofs.Lines.{holds-within}
 
 -- a line that is broken doesn't hold
 at-fails : (ns : List Namespace) (c : Columns) (l : Line) (i r : ℕ) → BreaksAt ns c l i r → Holds ns c l → ⊥
@@ -210,10 +210,10 @@ first-or-rest u z zs Q s first rest = by (bytes_eq z u) refl
   where
     by : (b : Bool) → bytes_eq z u ≡ b → Q
     by true e = first ((bytes_eq-Decides z u).0 e)
-    by false e = rest (λ n. s (times-other u z zs e ∙ n))
+    by false e = rest (λ n. s (times_other u z zs e ∙ n))
 
 search-among : (D : List ℕ → Type 0) → ((u : List ℕ) → D u ⊎ (¬ D u)) → (zs : List (List ℕ)) → HoldsAmong D zs ⊎ FailsAmong D zs
-search-among D test [] = inl (λ u s. absurd (s (times-nil u)))
+search-among D test [] = inl (λ u s. absurd (s (times_none u)))
 search-among D test (z ∷ zs) = by (search-among D test zs) (test z)
   where
     ordered : (f : FailsAmong D zs) → (¬ D z) → (o : Ordering) → slice_cmp nat_cmp z f.0 ≡ o → FailsAmong D (z ∷ zs)
@@ -253,7 +253,7 @@ search-among D test (z ∷ zs) = by (search-among D test zs) (test z)
 
 -- a tuple that stands in neither of two lists stands equally often in both
 nowhere-alike : (xs ys : List (List ℕ)) (u : List ℕ) → times u (xs ++ ys) ≡ 0 → times u xs ≡ times u ys
-nowhere-alike xs ys u e = let both = times-append u xs ys in omega arith
+nowhere-alike xs ys u e = let both = times_append u xs ys in omega arith
 
 search-tuples : (xs ys : List (List ℕ)) → AsOften xs ys ⊎ ((t : List ℕ) × (m : ℕ) × (n : ℕ) × DiffersFirst xs ys t m n)
 search-tuples xs ys = by (search-among Alike (λ u. same-number (times u xs) (times u ys)) (xs ++ ys))
@@ -324,5 +324,5 @@ search-lines ns c = by (search-below Line-holds test (length (lines ns)))
         )
 
     by : ((k : ℕ) → k < length (lines ns) → Line-holds k) ⊎ FailsBelow Line-holds (length (lines ns)) → AllHold ns c ⊎ ((b : Broken) × IsFirstBroken ns c b)
-    by (inl all) = inl (all-hold ns c all)
+    by (inl all) = inl (holds-within ns c (lines ns) all)
     by (inr f) = inr (broken f (search-line ns c (item_at (lines ns) f.0) (f.0 + 1)))

@@ -6,6 +6,7 @@ use Rattle.std.proofs.lemmas.Bool.{ltb-true, ltb-false}
 use Rattle.std.proofs.lemmas.List.Sums.{prefix_len_passes, prefix_len_stops, prefix_len-le-length}
 use Rattle.std.proofs.lemmas.List.Sorted.{IsPermutation-refl, IsPermutation-cons, IsPermutation-trans, IsPermutation-insert, IsNonDecreasingBy-insert, IsNonDecreasingBy-short}
 use Rattle.rv_model.specs.Image.{Img}
+use Rattle.rv_model.specs.declared.machine.TheConstants.{MOST_LOADED}
 use Rattle.elf_load.specs.File.{e_type, e_machine, e_entry, e_phentsize, e_phnum, header_offset, header, headers_of, At}
 use Rattle.elf_load.specs.Header.{is_dynamic, lacks_bytes, is_out_of_range, holds_word, has_memory}
 use Rattle.elf_load.specs.Layout.{is_in_window, overlaps}
@@ -202,7 +203,7 @@ eleven file =
 thirteen : (file : List ℕ) → Come file 13
 thirteen file =
     let size : ℕ = min (data_size (headers_of file)) (2 ^ 64 - 1) in
-    let c12 : Come file 12 = whole file 11 (TooMuchData size) refl refl refl (λ i j f. f) (both (size ≡ size) (2 ^ 24 < size) (inl refl) (less (2 ^ 24) size)) (eleven file) in
+    let c12 : Come file 12 = whole file 11 (TooMuchData size) refl refl refl (λ i j f. f) (both (size ≡ size) (MOST_LOADED < size) (inl refl) (less MOST_LOADED size)) (eleven file) in
     let entry : ℕ = e_entry file in
     let no_word : Decided (HasWord file entry → ⊥) = elim (has_word file entry) [ inl w ↦ inr (λ never. never w) | inr never ↦ inl never ] in
     whole file 12 (EntryOutside entry) refl refl refl (λ i j f. f) (both (entry ≡ entry) (HasWord file entry → ⊥) (inl refl) no_word) c12

@@ -1,11 +1,12 @@
 -- Headers by their index, and what a test of each of them finds.
-use Rattle.std.proofs.Common.{◌≡◌, ℕ, ◌+◌, ◌<◌, ◌≤◌, ◌^◌, ◌⊎◌, inl, inr, List, Bool, true, false, cond, not, ◌||◌, length, get_or, position, Some, None, refl, sym, ◌∙◌, ap, subst, arith, max}
+use Rattle.std.proofs.Common.{◌≡◌, ℕ, ◌+◌, ◌<◌, ◌≤◌, ◌⊎◌, inl, inr, List, Bool, true, false, cond, not, ◌||◌, length, get_or, position, Some, None, refl, sym, ◌∙◌, ap, subst, arith, max}
 use Rattle.std.proofs.lemmas.Bool.{ltb-false, lt-ltb, and_parts, and_from, ltb-true}
 use Rattle.std.proofs.lemmas.List.FromFn.{length-map-range_with_len, get_or-map-range_with_len}
 use Rattle.std.proofs.lemmas.List.Quantifiers.{position-Some}
 use Rattle.std.proofs.lemmas.List.Sums.{prefix_len_passes}
 use Rattle.std.proofs.lemmas.List.Folds.{Any-from_list_any, list_any_at}
 use Rattle.std.specs.List.{position_or_len, list_any}
+use Rattle.rv_model.specs.declared.machine.TheConstants.{INPUT_START, INPUT_LEN, OUTPUT_START, OUTPUT_LEN}
 use Rattle.elf_load.specs.File.{e_phnum, header, headers_of, At}
 use Rattle.elf_load.specs.Header.{Covers, IsInWindow}
 use Rattle.elf_load.specs.Layout.{meets, overlaps, is_in_window}
@@ -94,14 +95,14 @@ or_from false y h = elim h [ inl e ↦ cc | inr e ↦ e ]
 pub in_window_at : (h : ProgramHeader) (a : ℕ) → Covers h a → IsInWindow a → is_in_window h ≡ true
 in_window_at h a p w =
     and_from _ _ p.0 (or_from _ _ (elim w [
-      | inl i ↦ inl (meets_at h.p_vaddr h.p_memsz 0x4000_0000 (2 ^ 24) a p.1 p.2 i.0 i.1)
-      | inr o ↦ inr (meets_at h.p_vaddr h.p_memsz 0x5000_0000 256 a p.1 p.2 o.0 o.1)
+      | inl i ↦ inl (meets_at h.p_vaddr h.p_memsz INPUT_START INPUT_LEN a p.1 p.2 i.0 i.1)
+      | inr o ↦ inr (meets_at h.p_vaddr h.p_memsz OUTPUT_START OUTPUT_LEN a p.1 p.2 o.0 o.1)
     ]))
 
 pub window_at : (h : ProgramHeader) → is_in_window h ≡ true → (a : ℕ) × Covers h a × IsInWindow a
 window_at h e =
     let all = and_parts _ _ e in
     elim (or_cases _ _ all.1) [
-      | inl i ↦ let x = shared h.p_vaddr h.p_memsz 0x4000_0000 (2 ^ 24) i in (x.0, (all.0, x.1, x.2), inl (x.3, x.4))
-      | inr o ↦ let x = shared h.p_vaddr h.p_memsz 0x5000_0000 256 o in (x.0, (all.0, x.1, x.2), inr (x.3, x.4))
+      | inl i ↦ let x = shared h.p_vaddr h.p_memsz INPUT_START INPUT_LEN i in (x.0, (all.0, x.1, x.2), inl (x.3, x.4))
+      | inr o ↦ let x = shared h.p_vaddr h.p_memsz OUTPUT_START OUTPUT_LEN o in (x.0, (all.0, x.1, x.2), inr (x.3, x.4))
     ]

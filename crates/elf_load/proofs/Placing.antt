@@ -8,6 +8,7 @@ use Rattle.std.proofs.lemmas.List.Sums.{sum_by-cons, sum-map}
 use Rattle.std.proofs.lemmas.List.Sorted.{All-permutation, Contains-permutation, sum_by-IsPermutation}
 use Rattle.std.proofs.lemmas.List.Elements.{All-filter, All-map, filter_passes}
 use Rattle.rv_model.specs.Image.{Seg, Img, IsSegment, IsLoadable, fetch, covers, word_in, EndsBefore as SegEndsBefore}
+use Rattle.rv_model.specs.declared.machine.TheConstants.{MEMORY_END, INPUT_START, INPUT_LEN, OUTPUT_START, OUTPUT_LEN, MOST_LOADED}
 use Rattle.elf_load.specs.File.{e_entry, e_phnum, header, headers_of, At}
 use Rattle.elf_load.specs.Header.{has_memory, is_load, is_executable}
 use Rattle.elf_load.specs.Layout.{meets, IsPlaced, Ascends}
@@ -96,16 +97,16 @@ segment_fits : (file : List ℕ) (h : ProgramHeader) → IsPlaced (length file) 
 segment_fits file h p =
     let loads = and_parts (is_load h) (nat_lt 0 h.p_memsz) p.memory in
     let some : 0 < h.p_memsz = ltb-true 0 h.p_memsz loads.1 in
-    let below : h.p_vaddr + h.p_memsz ≤ 2 ^ 32 = ltb-false (2 ^ 32) (h.p_vaddr + h.p_memsz) (second_false (has_memory h) _ p.memory p.below) in
+    let below : h.p_vaddr + h.p_memsz ≤ MEMORY_END = ltb-false MEMORY_END (h.p_vaddr + h.p_memsz) (second_false (has_memory h) _ p.memory p.below) in
     let whole = or_false (nat_lt (length file) (h.p_offset + h.p_filesz)) (nat_lt h.p_memsz h.p_filesz) (second_false (is_load h) _ loads.0 p.whole) in
     let bytes : h.p_filesz ≤ h.p_memsz = ltb-false h.p_memsz h.p_filesz whole.1 in
-    let windows = or_false (meets h.p_vaddr h.p_memsz 0x4000_0000 (2 ^ 24)) (meets h.p_vaddr h.p_memsz 0x5000_0000 256) (second_false (is_load h) _ loads.0 p.outside) in
+    let windows = or_false (meets h.p_vaddr h.p_memsz INPUT_START INPUT_LEN) (meets h.p_vaddr h.p_memsz OUTPUT_START OUTPUT_LEN) (second_false (is_load h) _ loads.0 p.outside) in
     record {
       some = some;
       below = below;
       bytes_fit = omega (arith, length-take h.p_filesz (drop h.p_offset file));
-      off_input = off_range h.p_vaddr h.p_memsz 0x4000_0000 (2 ^ 24) some (omega arith) (λ e. let no = windows.0 in cc);
-      off_output = off_range h.p_vaddr h.p_memsz 0x5000_0000 256 some (omega arith) (λ e. let no = windows.1 in cc);
+      off_input = off_range h.p_vaddr h.p_memsz INPUT_START INPUT_LEN some (omega arith) (λ e. let no = windows.0 in cc);
+      off_output = off_range h.p_vaddr h.p_memsz OUTPUT_START OUTPUT_LEN some (omega arith) (λ e. let no = windows.1 in cc);
     }
 
 -- a relation of images of pairs
@@ -142,10 +143,10 @@ fewer_with_memory (h ∷ hs) =
       | false ↦ rest
     ]
 
-few_bytes : (file : List ℕ) (sorted : List ProgramHeader) → Passes file → Ascends (headers_of file) sorted → sum_by (λ s. length s.bytes) (map (segment file) sorted) ≤ 2 ^ 24
+few_bytes : (file : List ℕ) (sorted : List ProgramHeader) → Passes file → Ascends (headers_of file) sorted → sum_by (λ s. length s.bytes) (map (segment file) sorted) ≤ MOST_LOADED
 few_bytes file sorted pass s =
     let size : ℕ = data_size (headers_of file) in
-    let few : size ≤ 2 ^ 24 = elim (at_or_below size (2 ^ 24)) [ inl e ↦ e | inr k ↦ absurd (pass (TooMuchData (min size (2 ^ 64 - 1))) (refl, omega arith)) ] in
+    let few : size ≤ MOST_LOADED = elim (at_or_below size MOST_LOADED) [ inl e ↦ e | inr k ↦ absurd (pass (TooMuchData (min size (2 ^ 64 - 1))) (refl, omega arith)) ] in
     omega (
       arith,
       few,
@@ -194,7 +195,7 @@ abbrev pub image : List ℕ → List ℕ → List ProgramHeader → Img
 image file input sorted = record { entry = e_entry file; segments = map (segment file) sorted; input = input }
 
 -- it is what each image has to be
-pub loadable : (file input : List ℕ) (sorted : List ProgramHeader) → Passes file → Ascends (headers_of file) sorted → length input + 8 ≤ 2 ^ 24 → IsLoadable (image file input sorted)
+pub loadable : (file input : List ℕ) (sorted : List ProgramHeader) → Passes file → Ascends (headers_of file) sorted → length input + 8 ≤ INPUT_LEN → IsLoadable (image file input sorted)
 loadable file input sorted pass s fits = record {
   segments = All-map IsSegment (segment file) sorted (λ i d l. segment_fits file (get_or sorted i d) (all_placed file sorted pass s i d l));
   ascending = pairs_map SegEndsBefore (segment file) sorted (header file 0) (sorted_apart file sorted s (λ i j. pass (Overlap i j)));

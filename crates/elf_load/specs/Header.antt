@@ -1,6 +1,6 @@
 -- What a program header says (System V gABI, "Program Header").
-use Rattle.std.specs.Prelude.{◌==◌, ◌&&◌, ◌||◌, ℕ, ◌+◌, ◌%◌, ◌^◌, ◌<◌, ◌≤◌, ◌⊎◌, nat_lt, nat_le, Bool, IsTrue}
-use Rattle.rv_model.specs.Image.{input_start, input_end, output_start, output_end}
+use Rattle.std.specs.Prelude.{◌==◌, ◌&&◌, ◌||◌, ℕ, ◌+◌, ◌%◌, ◌<◌, ◌≤◌, ◌⊎◌, nat_lt, nat_le, Bool, IsTrue}
+use Rattle.rv_model.specs.declared.machine.TheConstants.{MEMORY_END, INPUT_START, INPUT_END, OUTPUT_START, OUTPUT_END}
 use Rattle.elf_load.specs.declared.header.ProgramHeader.{ProgramHeader}
 
 -- PT_LOAD
@@ -23,9 +23,9 @@ is_dynamic h = h.p_type == 2 || h.p_type == 3
 abbrev pub lacks_bytes : ℕ → ProgramHeader → Bool
 lacks_bytes size h = is_load h && (nat_lt size (h.p_offset + h.p_filesz) || nat_lt h.p_memsz h.p_filesz)
 
--- a segment that ends above 2^32
+-- a segment that ends past the end of memory
 abbrev pub is_out_of_range : ProgramHeader → Bool
-is_out_of_range h = has_memory h && nat_lt (2 ^ 32) (h.p_vaddr + h.p_memsz)
+is_out_of_range h = has_memory h && nat_lt MEMORY_END (h.p_vaddr + h.p_memsz)
 
 -- an executable segment that holds the four bytes at an address
 abbrev pub holds_word : ℕ → ProgramHeader → Bool
@@ -37,4 +37,4 @@ Covers h a = IsTrue (is_load h) × (h.p_vaddr ≤ a) × (a < h.p_vaddr + h.p_mem
 
 -- the address is in the input window or in the output window
 abbrev pub IsInWindow : ℕ → Type 0
-IsInWindow a = ((input_start ≤ a) × (a < input_end)) ⊎ ((output_start ≤ a) × (a < output_end))
+IsInWindow a = ((INPUT_START ≤ a) × (a < INPUT_END)) ⊎ ((OUTPUT_START ≤ a) × (a < OUTPUT_END))

@@ -1,6 +1,7 @@
 -- Sharing an address as tests that compute; segments that lie where they may, and in order.
-use Rattle.std.specs.Prelude.{◌≡◌, ◌&&◌, ◌||◌, false, true, Bool, nat_lt, ℕ, ◌+◌, ◌^◌, ◌<◌, ◌≤◌, List, filter, slice_index_or, length}
+use Rattle.std.specs.Prelude.{◌≡◌, ◌&&◌, ◌||◌, false, true, Bool, nat_lt, ℕ, ◌+◌, ◌<◌, ◌≤◌, List, filter, slice_index_or, length}
 use Rattle.std.specs.List.Sorted.{IsPermutation, IsNonDecreasingBy}
+use Rattle.rv_model.specs.declared.machine.TheConstants.{INPUT_START, INPUT_LEN, OUTPUT_START, OUTPUT_LEN}
 use Rattle.elf_load.specs.Header.{has_memory, is_load, lacks_bytes, is_out_of_range}
 use Rattle.elf_load.specs.declared.header.ProgramHeader.{ProgramHeader}
 
@@ -15,7 +16,7 @@ overlaps g h = is_load g && is_load h && meets g.p_vaddr g.p_memsz h.p_vaddr h.p
 -- a segment has an address of a window
 abbrev pub is_in_window : ProgramHeader → Bool
 is_in_window h =
-    is_load h && (meets h.p_vaddr h.p_memsz 0x4000_0000 (2 ^ 24) || meets h.p_vaddr h.p_memsz 0x5000_0000 256)
+    is_load h && (meets h.p_vaddr h.p_memsz INPUT_START INPUT_LEN || meets h.p_vaddr h.p_memsz OUTPUT_START OUTPUT_LEN)
 
 -- a segment with memory that passes the tests of a header by itself, in a file of that length
 pub record IsPlaced (size : ℕ) (h : ProgramHeader) : Type 0 where

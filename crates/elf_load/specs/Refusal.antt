@@ -1,6 +1,7 @@
 -- The loader's tests, and which refusal a file has.
 use Rattle.std.specs.Prelude.{◌≡◌, ◌≢◌, false, nat_eq, ℕ, ◌+◌, ◌-◌, ◌%◌, ◌^◌, ◌<◌, ◌⊎◌, min, List, [], ◌∷◌, length, slice_index, sum, map, filter}
 use Rattle.std.specs.List.{starts_with}
+use Rattle.rv_model.specs.declared.machine.TheConstants.{MOST_LOADED}
 use Rattle.elf_load.specs.File.{e_type, e_machine, e_entry, e_phentsize, e_phnum, header_offset, header, headers_of, At}
 use Rattle.elf_load.specs.Header.{is_load, is_dynamic, lacks_bytes, is_out_of_range, holds_word, Covers, IsInWindow}
 use Rattle.elf_load.specs.declared.header.ProgramHeader.{ProgramHeader}
@@ -28,7 +29,7 @@ Fails file (FilePart i) = At file (lacks_bytes (length file)) i
 Fails file (OutOfRange i) = At file is_out_of_range i
 Fails file (Overlap i j) = (i < j) × (j < e_phnum file) × (a : ℕ) × Covers (header file i) a × Covers (header file j) a
 Fails file (WindowClash i) = (i < e_phnum file) × (a : ℕ) × Covers (header file i) a × IsInWindow a
-Fails file (TooMuchData bytes) = (bytes ≡ min (data_size (headers_of file)) (2 ^ 64 - 1)) × (2 ^ 24 < bytes)
+Fails file (TooMuchData bytes) = (bytes ≡ min (data_size (headers_of file)) (2 ^ 64 - 1)) × (MOST_LOADED < bytes)
 Fails file (EntryOutside entry) = (entry ≡ e_entry file) × (HasWord file entry → ⊥)
 Fails file NoMemory = ⊥
 

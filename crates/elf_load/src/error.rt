@@ -34,7 +34,7 @@ pub enum ElfErr {
     /// This segment's bytes pass the end of the file, or are more than its memory.
     #[error("the bytes of segment {0} are not in the file")]
     FilePart(u16),
-    /// This segment ends above 2^32.
+    /// This segment ends past the end of memory.
     #[error("segment {0} ends above 2^32")]
     OutOfRange(u16),
     /// These two segments share an address.
@@ -43,7 +43,7 @@ pub enum ElfErr {
     /// This segment shares an address with the input window or the output window.
     #[error("segment {0} meets a window")]
     WindowClash(u16),
-    /// The segments have so many bytes in the file, more than 2^24. Past 2^64 - 1 the number stays
+    /// The segments have so many bytes in the file, more than may be loaded. Past 2^64 - 1 the number stays
     /// there, which no file of fewer than 2^48 bytes reaches.
     #[error("{0} bytes are too many to load")]
     TooMuchData(u64),

@@ -3,6 +3,8 @@ ghost use Rattle.std.specs.Prelude.{◌≡◌, ◌+◌};
 ghost use Rattle.elf_load.specs.Header.{is_load, has_memory, is_executable, is_dynamic, lacks_bytes, is_out_of_range, holds_word};
 ghost use Rattle.elf_load.specs.Layout.{meets, overlaps, is_in_window};
 
+use rv_model::{INPUT_LEN, INPUT_START, MEMORY_END, OUTPUT_LEN, OUTPUT_START};
+
 const PT_LOAD: u32 = 1;
 
 const PT_DYNAMIC: u32 = 2;
@@ -11,13 +13,10 @@ const PT_INTERP: u32 = 3;
 
 const PF_X: u32 = 1;
 
-/// The end of memory.
-const MEMORY_END: u128 = 1 << 32;
-
 /// The input window and the output window: the first address, and how many there are.
-const INPUT_WINDOW: (u64, u64) = (0x4000_0000, 1 << 24);
+const INPUT_WINDOW: (u64, u64) = (INPUT_START, INPUT_LEN);
 
-const OUTPUT_WINDOW: (u64, u64) = (0x5000_0000, 256);
+const OUTPUT_WINDOW: (u64, u64) = (OUTPUT_START, OUTPUT_LEN as u64);
 
 /// A program header of an ELF64 file (System V gABI, "Program Header").
 #[derive(Clone, Copy, Debug, PartialEq, Eq)]
@@ -84,7 +83,7 @@ impl ProgramHeader {
     pub(crate) fn is_out_of_range(&self) -> bool
         ensures { result ≡ is_out_of_range self.now }
     {
-        self.has_memory() && MEMORY_END < self.end()
+        self.has_memory() && u128::from(MEMORY_END) < self.end()
     }
 
     /// The address after the last one.

@@ -15,11 +15,8 @@ use crate::file_header::check_file_header;
 use crate::header::ProgramHeader;
 use crate::layout::{by_address, check_overlaps, check_windows};
 use crate::program_headers::{check_headers, program_headers};
-use rv_model::{Image, Segment};
+use rv_model::{INPUT_LEN, Image, MOST_LOADED, Segment};
 use std::alloc::{AllocError, Global};
-
-/// How many bytes may be loaded.
-const MOST_DATA: u128 = 1 << 24;
 
 // How many bytes the segments have in the file.
 fn data_size(headers: &[ProgramHeader]) -> u128
@@ -50,7 +47,7 @@ fn check_load(file: &[u8], headers: &[ProgramHeader]) -> Result<(), ElfErr>
     ensures err { IfErr result (Refused file.now) }
 {
     let size = data_size(headers);
-    if size > MOST_DATA {
+    if size > u128::from(MOST_LOADED) {
         return Err(ElfErr::TooMuchData(size.min(u128::from(u64::MAX)) as u64));
     }
     let entry = u64_at(file, 24);
@@ -99,26 +96,22 @@ fn image_of(
     requires whole { 64 ≤ length file.now }
     requires passed { PassesFirst 13 file.now }
     requires ascends { Ascends (headers_of file.now) headers.now }
-    requires fits { length input.now + 8 ≤ 2 ^ 24 }
+    requires fits { length input.now + 8 ≤ INPUT_LEN }
     ensures { IfOk result (Loads file.now input.now) }
 {
     let segments = segments_of(alloc, file, headers)?;
     let input = Vec::from_slice(alloc, input)?;
-    Ok(Image {
-        entry: u64_at(file, 24),
-        segments,
-        input,
-    })
+    Image::new(alloc, u64_at(file, 24), segments, input)
 }
 
 /// Loads a static ELF64 file for RISC-V (System V gABI, "ELF Header" and "Program Header"), with an
-/// input of at most 2^24 - 8 bytes. It takes memory for the file's bytes alone, whatever sizes the
-/// file promises.
+/// input that fits into the input window after its length, and decodes its instructions. It takes memory for the file's bytes
+/// alone, whatever sizes the file promises.
 ///
 /// Each file has one image for an input, or one refusal, as `one_answer` says. `NoMemory` may come in
 /// place of either; no clause says when, and the tests show that it stays away with ample memory.
 pub fn load(alloc: Global, file: &[u8], input: &[u8]) -> Result<Image, ElfErr>
-    requires { length input.now + 8 ≤ 2 ^ 24 }
+    requires { length input.now + 8 ≤ INPUT_LEN }
     ensures ok { IfOk result (Loads file.now input.now) }
     ensures err { IfErr result (λ e. (e ≡ ElfErr.NoMemory) ⊎ Refused file.now e) }
 

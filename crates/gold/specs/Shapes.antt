@@ -1,9 +1,36 @@
 -- What it means that tables have a shape.
-use Rattle.std.specs.Prelude.{◌≡◌, ℕ, zero, suc, ◌^◌, ◌<◌, ◌≤◌, Bool, true, ◌==◌, ◌&&◌, List, [], ◌∷◌, ◌++◌, length, count_by, All, MatchBool}
+use Rattle.std.specs.Prelude.{◌≡◌, ℕ, zero, suc, ◌^◌, ◌<◌, ◌≤◌, Bool, true, false, ◌==◌, ◌&&◌, List, [], ◌∷◌, ◌++◌, length, count_by, All, MatchBool}
 use Rattle.gold.specs.Field.{AreCanonical}
 use Rattle.gold.specs.declared.instances.Table.{Table}
+use Rattle.gold.specs.declared.instances.Witness.{Witness}
 use Rattle.gold.specs.declared.shapes.AirShape.{AirShape}
 use Rattle.gold.specs.declared.shapes.Shape.{Shape}
+use Rattle.gold.specs.declared.shapes.Form.{Form}
+use Rattle.gold.specs.declared.shapes.Form.TheVariants.{Plain, One, Two}
+use Rattle.gold.specs.declared.shapes.Profile.{Profile}
+use Rattle.gold.specs.declared.shapes.Profile.TheVariants.{Small, Wide}
+
+-- tables of this form are the machine's
+abbrev pub is_machine : Form → Bool
+is_machine Plain = false
+is_machine One = true
+is_machine Two = true
+
+-- the profiles of tables of a form: format 1 has no profile but Small
+abbrev pub IsProfileOf : Form → Profile → Type 0
+IsProfileOf Plain profile = profile ≡ Small
+IsProfileOf One profile = profile ≡ Small
+IsProfileOf Two profile = Unit {0}
+
+-- Main in profile Wide has its own rows and most instances
+abbrev pub widened : AirShape → AirShape
+widened main = record { rows = 16384; columns = main.columns; most = 2 ^ 18 }
+
+-- the airs in a profile, where those of a shape are Small's: Wide's Main in place of Main, which is air 0
+abbrev pub in_profile : Profile → List AirShape → List AirShape
+in_profile Small airs = airs
+in_profile Wide [] = []
+in_profile Wide (main ∷ others) = widened main ∷ others
 
 -- where an instance stands: its air, its number, and the air's shape
 pub record Place : Type 0 where
@@ -70,12 +97,17 @@ abbrev pub counts_from : ℕ → ℕ → List Table → List ℕ
 counts_from a zero tables = []
 counts_from a (suc n) tables = count_by (λ t. t.air == a) tables ∷ counts_from (suc a) n tables
 
--- how many tables there are of each air of the shape
-abbrev pub counts_of : Shape → List Table → List ℕ
-counts_of shape tables = counts_from 0 (length shape.airs) tables
+-- the airs that tables of a shape have in their profile
+abbrev pub airs_of : Shape → Witness → List AirShape
+airs_of shape witness = in_profile witness.profile shape.airs
 
--- the tables have the shape, in order of air, then number
-pub record HaveShape (shape : Shape) (tables : List Table) : Type 0 where
+-- how many tables there are of each air of the shape
+abbrev pub counts_of : Shape → Witness → List ℕ
+counts_of shape witness = counts_from 0 (length shape.airs) witness.tables
+
+-- the tables have the shape in their profile, in order of air, then number
+pub record HaveShape (shape : Shape) (witness : Witness) : Type 0 where
+  pub profile : IsProfileOf shape.form witness.profile
   pub bits : length shape.airs < 2 ^ 32
-  pub counted : AreCounts shape.machine 0 shape.airs (counts_of shape tables)
-  pub filled : Fill (places_from 0 shape.airs (counts_of shape tables)) tables
+  pub counted : AreCounts (is_machine shape.form) 0 (airs_of shape witness) (counts_of shape witness)
+  pub filled : Fill (places_from 0 (airs_of shape witness) (counts_of shape witness)) witness.tables

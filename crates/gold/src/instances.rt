@@ -2,7 +2,7 @@
 ghost use Rattle.std.specs.Prelude.{◌≡◌, ◌++◌, ◌∷◌, ◌↔◌, [], length, IsTrue, OnOk, OnErr};
 ghost use Rattle.gold.specs.Tables.{HaveCanonical};
 
-use crate::Columns;
+use crate::{Columns, Profile};
 use std::alloc::{AllocError, Global};
 use std::marker::Model;
 
@@ -96,9 +96,11 @@ impl Tables {
     }
 }
 
-/// What a program publishes of its run: the tables in the order of their file, by air and then by
-/// instance.
+/// What a program publishes of its run.
 #[derive(Debug, Drop)]
 pub struct Witness {
+    /// How large the instances of a machine's Main are: Small where the tables aren't a machine's.
+    pub profile: Profile,
+    /// The tables in the order of their file, by air and then by instance.
     pub tables: Tables,
 }

@@ -14,7 +14,7 @@ pub use field::{Fe, P};
 pub use halves::{join_limbs, limbs};
 pub use instances::{Table, Tables, Witness};
 pub use sequence::Sequence;
-pub use shapes::{AirShape, Shape};
+pub use shapes::{AirShape, Form, Profile, Shape, WIDE_MAIN_MOST, WIDE_MAIN_ROWS};
 
 #[cfg(test)]
 mod tests;

@@ -35,6 +35,22 @@ fn halves_of_a_number(rt: HostRuntime) {
 }
 
 #[test]
+fn wide_main(rt: HostRuntime) {
+    let main = AirShape {
+        rows: 4096,
+        columns: 37,
+        most: 1_048_576,
+    };
+    let wide = AirShape {
+        rows: 16_384,
+        columns: 37,
+        most: 262_144,
+    };
+    assert_eq!(rt; main.widened(), wide);
+    assert!(rt; Form::One.is_machine() && Form::Two.is_machine() && !Form::Plain.is_machine());
+}
+
+#[test]
 fn one_table(rt: HostRuntime) -> Result<(), Fail> {
     let mut column = Column::zeros(rt.alloc(), 2)?;
     column.set(1, Fe::from(9));

@@ -1,18 +1,18 @@
 //! The memory as the emulator sees it.
-ghost use Rattle.std.specs.Prelude.{◌≡◌, ◌<◌, ◌^◌, OnOk, OnErr, IfOk};
+ghost use Rattle.std.specs.Prelude.{◌≡◌, ◌<◌, OnOk, OnErr, IfOk};
 ghost use Rattle.std.specs.Arc.{arc_value};
 ghost use Rattle.rv_model.specs.Image.{initial_word};
 ghost use Rattle.rv_model.specs.State.{with_word};
 ghost use Rattle.mem_pages.specs.Memory.{word_of};
 
 use crate::page::Page;
-use rv_model::Image;
+use rv_model::{Image, MEMORY_WORDS};
 use std::alloc::{AllocError, Global};
 use std::collections::BTreeMap;
 use std::marker::Model;
 use std::sync::Arc;
 
-/// A memory of 2^29 doublewords, which begins as an image's.
+/// A memory of doublewords, which begins as an image's.
 #[derive(Drop)]
 pub struct Memory {
     alloc: Global,
@@ -42,11 +42,11 @@ impl Memory {
         })
     }
 
-    /// The doubleword with this number, below 2^29: the eight bytes from 8 * index on.
+    /// The doubleword with this number: the eight bytes from 8 * index on.
     #[inline]
     #[tactic(auto, unfolding(crate::specs::Memory::word_of))]
     pub fn word(&self, index: u32) -> u64
-        requires { index < 2 ^ 29 }
+        requires { index < MEMORY_WORDS }
         ensures { result ≡ word_of self.now index }
     {
         match self.pages.get(&(index / 512)) {
@@ -55,12 +55,12 @@ impl Memory {
         }
     }
 
-    /// Puts a value into the doubleword with this number, below 2^29, and leaves each other as it is.
+    /// Puts a value into the doubleword with this number, and leaves each other as it is.
     /// Where memory is wanting, all are as before.
     #[inline]
     #[tactic(auto, unfolding(crate::specs::Memory::word_of))]
     pub fn set_word(&mut self, index: u32, value: u64) -> Result<(), AllocError>
-        requires { index < 2 ^ 29 }
+        requires { index < MEMORY_WORDS }
         ensures ok { OnOk result (word_of self.new ≡ with_word (word_of self.old) index value) }
         ensures err { OnErr result (self.new ≡ self.old) }
     {

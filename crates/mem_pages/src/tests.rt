@@ -20,11 +20,7 @@ fn image(alloc: Global) -> Result<Image, AllocError> {
         exec: true,
         bytes: bytes.to_vec(alloc)?,
     })?;
-    Ok(Image {
-        entry: 0x1_0FF8,
-        segments,
-        input: Vec::new(alloc),
-    })
+    Image::new(alloc, 0x1_0FF8, segments, Vec::new(alloc))
 }
 
 fn memory(alloc: Global) -> Result<Memory, AllocError> {

@@ -7,16 +7,17 @@ use Rattle.rv_word.specs.declared.instr.Instr.TheVariants.{Lui, Auipc, Jal, Jalr
 use Rattle.rv_word.specs.Is.{Is, decoded}
 use Rattle.rv_word.specs.Ranges.{InRange}
 use Rattle.rv_model.specs.Image.{Img, fetch}
+use Rattle.rv_model.specs.Code.{instr_of}
 use Rattle.rv_model.specs.Op.{bits_of}
 use Rattle.rv_model.specs.State.{State, Answer, Next, Halt, Fault, step, executed, executed_fetch, executed_word, next, with_reg, wrapped, reg, is_taken}
-use Rattle.rv_model.specs.Cpu.{cpu_of, access, IsGood}
+use Rattle.rv_model.specs.Cpu.{cpu_of}
 use Rattle.rv_model.specs.Run.{state_at, step_at, moved, IsNext}
 use Rattle.min_trace.specs.declared.record.StepRecord.{StepRecord}
 use Rattle.min_trace.specs.Operands.{rs1_of, rs2_of, rd_of}
-use Rattle.min_trace.specs.Record.{instr_of, instr_at, onward, record_at}
+use Rattle.min_trace.specs.Record.{instr_at, onward, record_at}
 use Rattle.min_trace.specs.Chunk.{IsStep}
 use Rattle.min_trace.specs.After.{with_written, with_stored, after}
-use Rattle.min_trace.proofs.Steps.{good_access, state_more}
+use Rattle.min_trace.proofs.Steps.{state_more}
 use Rattle.min_trace.proofs.Completes.{jumped, completed, completes, executes_at, in_range_at, AreRegisters, registers_at}
 use Rattle.min_trace.proofs.Facts.{recorded, recorded_at}
 
@@ -129,6 +130,3 @@ rd_at found range image j = written_below (rd_of (instr_at image j)) _ (rd_below
 pub range_at : Found → Ranged → (image : Img) (j : ℕ) → InRange (record_at image j).instr
 unfolding record_at
 range_at found range image j = in_range_at found range image j
-
-pub good_at : (image : Img) (j : ℕ) → IsStep (step_at image j) → IfSome (access (instr_at image j) (state_at image j)) IsGood
-good_at image j h = good_access (instr_at image j) (state_at image j) (subst IsStep (executes_at image j h) h)

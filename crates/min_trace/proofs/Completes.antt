@@ -8,12 +8,13 @@ use Rattle.rv_word.specs.declared.instr.Instr.TheVariants.{Lui, Auipc, Jal, Jalr
 use Rattle.rv_word.specs.Is.{Is, decoded}
 use Rattle.rv_word.specs.Ranges.{InRange}
 use Rattle.rv_model.specs.Image.{Img, fetch}
+use Rattle.rv_model.specs.Code.{instr_of}
 use Rattle.rv_model.specs.Op.{value_of, bits_of}
 use Rattle.rv_model.specs.Align.{width, aligned}
 use Rattle.rv_model.specs.State.{State, Answer, Next, Halt, Fault, step, executed, executed_fetch, executed_word, load, store, at_address, jump, next, next_with_reg, next_with_store, with_reg, wrapped, reg, operand, is_taken}
 use Rattle.rv_model.specs.Run.{state_at, step_at, moved}
 use Rattle.rv_model.specs.declared.answer.RunFault.TheVariants.{Misaligned, BadAddress, BadTarget, BadCall}
-use Rattle.min_trace.specs.Record.{instr_of, instr_at}
+use Rattle.min_trace.specs.Record.{instr_at}
 use Rattle.min_trace.specs.Chunk.{IsStep}
 
 -- a jump whose target is good

@@ -4,3 +4,6 @@ pub mod Completes
 pub mod Facts
 pub mod After
 pub mod Pieces
+pub mod Bounds
+pub mod Values
+pub mod Beginning

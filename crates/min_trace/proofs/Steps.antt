@@ -8,6 +8,7 @@ use Rattle.rv_word.specs.declared.instr.Instr.{Instr}
 use Rattle.rv_word.specs.declared.instr.Instr.TheVariants.{Lui, Auipc, Jal, Jalr, Branch, Load, Store, OpImm, Op, Fence, Ecall, Ebreak}
 use Rattle.rv_word.specs.Is.{decoded}
 use Rattle.rv_model.specs.Image.{Img, fetch}
+use Rattle.rv_model.specs.Code.{instr_of}
 use Rattle.rv_model.specs.Align.{width}
 use Rattle.rv_model.specs.State.{State, Answer, Fault, step, executed, executed_fetch, executed_word, load, store, at_address}
 use Rattle.rv_model.specs.Cpu.{cpu_of, with_memory, access, IsGood, Touches, told, memory_after, KeepsUnlessNext}
@@ -18,7 +19,7 @@ use Rattle.rv_model.specs.declared.answer.StepAnswer.{StepAnswer}
 use Rattle.rv_model.specs.declared.answer.StepAnswer.TheVariants as answers
 use Rattle.rv_model.specs.declared.cpu.Cpu.{Cpu}
 use Rattle.min_trace.specs.declared.record.MemAct.{MemAct}
-use Rattle.min_trace.specs.Record.{instr_of, instr_at, act, old_of, onward, cpu_at, mem_at, record_of, record_at, old_at}
+use Rattle.min_trace.specs.Record.{instr_at, act, old_of, onward, cpu_at, mem_at, record_of, record_at, old_at}
 use Rattle.min_trace.specs.Chunk.{IsStep}
 use Rattle.min_trace.specs.Found.{old_found, next_told, IsFront}
 

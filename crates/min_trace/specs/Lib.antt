@@ -4,3 +4,4 @@ pub mod Chunk
 pub mod Found
 pub mod Laws
 pub mod After
+pub mod Bounds

@@ -3,8 +3,8 @@ use Rattle.std.specs.Prelude.{◌==◌, ℕ, ◌+◌, ◌/◌, ◌%◌, List, []
 use Rattle.std.specs.List.{flat_map, range_with_len}
 use Rattle.rv_word.specs.declared.instr.Instr.{Instr}
 use Rattle.rv_word.specs.declared.instr.Instr.TheVariants.{Fence}
-use Rattle.rv_word.specs.Is.{decoded}
 use Rattle.rv_model.specs.Image.{Img, fetch}
+use Rattle.rv_model.specs.Code.{instr_of}
 use Rattle.rv_model.specs.Op.{value_of, flag_of}
 use Rattle.rv_model.specs.Align.{aligned}
 use Rattle.rv_model.specs.State.{Answer, Next, Halt, Fault, operand}
@@ -15,11 +15,6 @@ use Rattle.rv_model.specs.declared.cpu.Cpu.{Cpu}
 use Rattle.min_trace.specs.Operands.{rs1_of, rs2_of, rd_of, op_of, uw_of, constant_of}
 use Rattle.min_trace.specs.declared.record.MemAct.{MemAct}
 use Rattle.min_trace.specs.declared.record.StepRecord.{StepRecord}
-
--- the instruction of a word that was fetched
-abbrev pub instr_of : Option ℕ → Option Instr
-instr_of None = None
-instr_of (Some word) = decoded word
 
 -- the instruction of step j; a step without one faults, and then FENCE stands for it
 unfoldable pub instr_at : Img → ℕ → Instr

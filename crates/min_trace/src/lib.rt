@@ -15,4 +15,4 @@ pub use laws::record_law;
 pub use operands::{constant_of, op_of, rd_of, rs1_of, rs2_of, uw_of};
 pub use record::{MemAct, StepRecord};
 pub use replay::Replay;
-pub use run_laws::{chunk_law, execution_law, instruction_law, state_law};
+pub use run_laws::{bounds_law, chunk_law, execution_law, instruction_law, state_law};

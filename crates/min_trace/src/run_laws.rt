@@ -1,13 +1,16 @@
 //! What the records of a run say of its states, its code and its chunks.
 ghost use Rattle.std.specs.Prelude.{◌≡◌, ◌+◌, ◌<◌, ◌≤◌, ℕ, Some, None, IfSome, take, drop, length, slice_index};
+ghost use Rattle.rv_word.specs.declared.instr.Instr.{Instr};
 ghost use Rattle.rv_word.specs.Ranges.{InRange};
-ghost use Rattle.rv_model.specs.Image.{Img, fetch};
-ghost use Rattle.rv_model.specs.State.{Halt, executed};
+ghost use Rattle.rv_model.specs.Image.{Img, IsLoadable, fetch};
+ghost use Rattle.rv_model.specs.Code.{instr_of};
+ghost use Rattle.rv_model.specs.State.{State, Halt, executed};
 ghost use Rattle.rv_model.specs.Cpu.{access, IsGood};
 ghost use Rattle.rv_model.specs.Run.{state_at, step_at, IsNext};
 ghost use Rattle.min_trace.specs.Chunk.{Piece, IsStep, IsChunk};
-ghost use Rattle.min_trace.specs.Record.{instr_of, instr_at, old_of, old_at, act, record_at, records_between};
+ghost use Rattle.min_trace.specs.Record.{instr_at, old_of, old_at, act, record_at, records_between};
 ghost use Rattle.min_trace.specs.After.{after};
+ghost use Rattle.min_trace.specs.Bounds.{HasBytes, IsState, IsRecord};
 
 use rv_word::decoding_law;
 
@@ -23,10 +26,12 @@ pub fn instruction_law()
     decoding_law();
 }
 
-/// What a step executes is its instruction, and where it makes an access the address is good; what it touches is noted.
+/// What a step executes is its instruction. One that doesn't fault makes its access at a good address, and what it touches
+/// is noted.
+#[inline(always)]
 pub fn execution_law()
     ensures executes { (image : Img) (j : ℕ) → IsStep (step_at image j) → step_at image j ≡ executed (instr_at image j) (state_at image j) }
-    ensures good { (image : Img) (j : ℕ) → IsStep (step_at image j) → IfSome (access (instr_at image j) (state_at image j)) IsGood }
+    ensures good { (i : Instr) (s : State) → IsStep (executed i s) → IfSome (access i s) IsGood }
     ensures old { (image : Img) (j : ℕ) → old_at image j ≡ old_of (act (access (instr_at image j) (state_at image j)) (state_at image j).word) }
 {}
 
@@ -46,3 +51,12 @@ pub fn chunk_law()
     ensures one { (image : Img) (c d : Piece) → IsChunk image c → IsChunk image d → c.number ≡ d.number → c ≡ d }
     ensures piece { (image : Img) (n first count : ℕ) → first + count ≤ n → records_between image first count ≡ take count (drop first (records_between image 0 n)) }
 {}
+
+/// The numbers of a run whose image has bytes are those of 64 bits: of its states, and of its records, whose accesses are
+/// to doublewords of the memory.
+pub fn bounds_law()
+    ensures states { (image : Img) → IsLoadable image → HasBytes image → (j : ℕ) → IsState (state_at image j) }
+    ensures records { (image : Img) → IsLoadable image → HasBytes image → (j : ℕ) → IsStep (step_at image j) → IsRecord (record_at image j) }
+{
+    decoding_law();
+}

@@ -1,27 +1,25 @@
 //! One step of a replay.
 ghost use Rattle.std.specs.Prelude.{◌≡◌, ◌+◌, ◌<◌, ◌≤◌, ℕ, Some, IsSome, IfSome, drop, length, OnSome, slice_index};
 ghost use Rattle.rv_model.specs.Image.{fetch};
+ghost use Rattle.rv_model.specs.Code.{instr_of};
 ghost use Rattle.rv_model.specs.Cpu.{IsGood};
 ghost use Rattle.rv_model.specs.Run.{step_at};
-ghost use Rattle.min_trace.specs.Record.{instr_of, act, old_of, cpu_at, record_at, old_at};
+ghost use Rattle.min_trace.specs.Record.{act, old_of, cpu_at, record_at, old_at};
 ghost use Rattle.min_trace.specs.Chunk.{IsStep};
 ghost use Rattle.min_trace.specs.Found.{old_found, next_told, IsFront};
 
 use crate::record::record_of;
 use crate::{MemAct, STEPS_PER_CHUNK, StepRecord};
 use rv_model::{Access, Cpu, Image, StepAnswer};
-use rv_word::{Instr, decode};
+use rv_word::Instr;
 
 // The instruction at a pc that has one.
 fn instruction(image: &Image, pc: u64) -> Instr
     requires { IsSome (instr_of (fetch image.now pc)) }
     ensures { instr_of (fetch image.now pc) ≡ Some result }
 {
-    match image.fetch(pc) {
-        Some(word) => match decode(word) {
-            Some(instr) => instr,
-            None => unreachable!(),
-        },
+    match image.instruction(pc) {
+        Some(instr) => instr,
         None => unreachable!(),
     }
 }

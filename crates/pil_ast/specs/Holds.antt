@@ -1,18 +1,22 @@
 -- What a line says of all rows of all instances (docs/PIL.md, "Lines").
 use Rattle.std.specs.Prelude.{ℕ, ◌<◌, ◌≡◌, ◌≢◌, ◌==◌, Bool, true, not, cond, List, [], ◌∷◌, Option, Some, None, map, flat_map, count_by, filter, bytes_eq}
 use Rattle.std.specs.List.{range_with_len}
-use Rattle.pil_ast.specs.Term.{Term, Tuples, Line, identity, lookup, bus, Namespace, item_at, is_line}
+use Rattle.pil_ast.specs.Term.{Term, Tuples, Line, identity, lookup, bus, Namespace, item_at, is_line, space_at}
 use Rattle.pil_ast.specs.Columns.{Columns}
-use Rattle.pil_ast.specs.Value.{value_in}
+use Rattle.pil_ast.specs.Value.{Cells, value, value_in, around}
 
 -- the lines in order of the text; line 1 is the first
 abbrev pub lines : List Namespace → List Line
 lines ns = flat_map (λ n. filter is_line n.items) ns
 
--- whether a row is selected: its selector isn't 0
+-- whether a row that reads these cells is selected, where a namespace has these items: its selector isn't 0
+abbrev pub chosen : List Line → Cells → Option Term → Bool
+chosen items x None = true
+chosen items x (Some e) = not (value items x e == 0)
+
+-- whether row r of instance i of the namespace s is selected
 abbrev pub selected : List Namespace → Columns → ℕ → ℕ → ℕ → Option Term → Bool
-selected ns c s i r None = true
-selected ns c s i r (Some e) = not (value_in ns c s i r e == 0)
+selected ns c s i r sel = chosen (space_at ns s).items (around ns c s i r) sel
 
 -- the tuple of a row
 abbrev pub tuple : List Namespace → Columns → ℕ → ℕ → ℕ → List Term → List ℕ
@@ -50,14 +54,20 @@ EqualAt ns c s a b i r = value_in ns c s i r a ≡ value_in ns c s i r b
 abbrev pub FoundAt : List Namespace → Columns → Tuples → Tuples → ℕ → ℕ → Type 0
 FoundAt ns c a b i r = selected ns c a.space i r a.sel ≡ true → times (tuple ns c a.space i r a.terms) (sent ns c b) ≢ 0
 
+-- what an identity or an `in` says of row r of instance i; an `is` speaks of all rows at once
+abbrev pub HoldsAt : List Namespace → Columns → ℕ → ℕ → Line → Type 0
+HoldsAt ns c i r (identity s a b) = EqualAt ns c s a b i r
+HoldsAt ns c i r (lookup a b) = FoundAt ns c a b i r
+HoldsAt ns c i r _ = Unit {0}
+
 -- a fact of each row of each instance of the namespace s
 abbrev pub AtEachRow : Columns → ℕ → (ℕ → ℕ → Type 0) → Type 0
 AtEachRow c s P = (i r : ℕ) → i < c.instances s → r < c.rows s → P i r
 
 -- a line holds; a declaration says nothing
 abbrev pub Holds : List Namespace → Columns → Line → Type 0
-Holds ns c (identity s a b) = AtEachRow c s (EqualAt ns c s a b)
-Holds ns c (lookup a b) = AtEachRow c a.space (FoundAt ns c a b)
+Holds ns c (identity s a b) = AtEachRow c s (λ i r. HoldsAt ns c i r (identity s a b))
+Holds ns c (lookup a b) = AtEachRow c a.space (λ i r. HoldsAt ns c i r (lookup a b))
 Holds ns c (bus ls rs) = AsOften (all_sent ns c ls) (all_sent ns c rs)
 Holds ns c _ = Unit {0}
 

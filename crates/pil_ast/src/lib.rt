@@ -3,6 +3,7 @@
 
 mod columns;
 mod items;
+mod laws;
 mod make;
 mod order;
 mod reader;
@@ -13,6 +14,7 @@ mod values;
 
 pub use columns::Columns;
 pub use items::expression;
+pub use laws::limit_laws;
 pub use make::{add, column, inter, mul, neg, number, public, sub};
 pub use tree::{Expr, Item, List, Pil, Place, Space};
 pub use turns::{Turn, plan};

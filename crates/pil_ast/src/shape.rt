@@ -1,6 +1,7 @@
 //! The tables and the lines of a text.
-ghost use Rattle.std.specs.Prelude.{◌≡◌, ◌<◌, ◌≤◌, ◌^◌, ◌-◌, map, length, count_by, sum_by, cond, IfOk, false, slice_get, filter, option_map};
+ghost use Rattle.std.specs.Prelude.{◌≡◌, ◌<◌, ◌≤◌, ◌^◌, ◌-◌, map, length, count_by, sum_by, cond, IfOk, slice_get, filter, option_map};
 ghost use Rattle.std.specs.Option.{option_copied};
+ghost use Rattle.gold.specs.declared.shapes.Form.TheVariants.{Plain};
 ghost use Rattle.pil_ast.specs.Tree.{line, namespaces};
 ghost use Rattle.pil_ast.specs.Term.{columns_of, space_at, is_line as is_line_of};
 ghost use Rattle.pil_ast.specs.Sound.{IsSound};
@@ -8,7 +9,7 @@ ghost use Rattle.pil_ast.specs.Holds.{lines as lines_of};
 ghost use Rattle.pil_ast.specs.Shape.{air_shape};
 
 use crate::tree::{Item, Pil};
-use gold::{AirShape, Sequence, Shape};
+use gold::{AirShape, Form, Sequence, Shape};
 use std::alloc::{AllocError, Global};
 
 /// How many columns an item declares.
@@ -80,10 +81,10 @@ fn lines_of_item(item: &Item) -> u32
 
 impl Pil {
     /// The shape of the text's tables: one air for each namespace in order of declaration, whose
-    /// columns are its constant polynomials and then its committed ones.
+    /// columns are its constant polynomials and then its committed ones. Its form is Plain.
     pub fn shape(&self, alloc: Global) -> Result<Shape, AllocError>
         requires { IsSound (namespaces self.now) }
-        ensures { IfOk result (λ s. (s.airs ≡ map air_shape (namespaces self.now)) × (s.machine ≡ false)) }
+        ensures { IfOk result (λ s. (s.airs ≡ map air_shape (namespaces self.now)) × (s.form ≡ Plain)) }
     {
         let mut airs = Sequence::new(alloc);
         for space in self.spaces.as_slice() {
@@ -95,7 +96,7 @@ impl Pil {
         }
         Ok(Shape {
             airs,
-            machine: false,
+            form: Form::Plain,
         })
     }
 

@@ -18,7 +18,8 @@ use Rattle.pil_meaning.specs.Meaning.{named_item, read_in, read_reference, read_
 use Rattle.pil_meaning.specs.Closed.{IsClosed, NamedIsClosed}
 use Rattle.pil_meaning.proofs.Nothing.{left_nil, right_nil, unless_true, each_draft}
 use Rattle.pil_meaning.proofs.Found.{found_polynomial, home_below}
-use Rattle.pil_meaning.proofs.Places.{IsReading, reading}
+use Rattle.pil_meaning.specs.Standing.{IsReading}
+use Rattle.pil_meaning.proofs.Places.{reading}
 use Rattle.pil_meaning.proofs.Terms.{no_place}
 use Rattle.pil_meaning.proofs.Signs.{meaning-signs}
 use Rattle.pil_meaning.proofs.Ranges.{all-spaces, items-signs, space-within}

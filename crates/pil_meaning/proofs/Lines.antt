@@ -22,7 +22,7 @@ use Rattle.pil_meaning.specs.Marks.{double_at}
 use Rattle.pil_meaning.specs.Soundness.{IsInField}
 use Rattle.pil_meaning.proofs.Nothing.{left_nil, right_nil, all_nil, unless_true, all_left, all_right, all_parts}
 use Rattle.pil_meaning.proofs.Found.{home_below}
-use Rattle.pil_meaning.proofs.Places.{IsReading}
+use Rattle.pil_meaning.specs.Standing.{IsReading}
 use Rattle.pil_meaning.proofs.Parts.{HasParts}
 use Rattle.pil_meaning.proofs.Terms.{no_place, term-sound, public-sound, IsPublic}
 

@@ -4,9 +4,9 @@ use Rattle.std.specs.List.{flat_map}
 use Rattle.pil_ast.specs.Term.{Line, Namespace, item_at, space_at, places_of, publics}
 use Rattle.pil_names.specs.Outline.{Draft, column, defined, published, equal, inside, against, Home, Outline, home_at, draft_at}
 use Rattle.pil_names.specs.Finding.{published_name, public_names}
-use Rattle.pil_names.specs.Wrongs.{rows_of}
 use Rattle.pil_syntax.specs.declared.tree.ColumnKind.TheVariants.{Constant, Commit}
 use Rattle.pil_meaning.specs.Meaning.{read_draft, read_home, read_homes, meaning}
+use Rattle.pil_meaning.specs.Standing.{IsReading}
 
 pub length-homes : (o : Outline) (n : ℕ) (hs : List Home) → length (read_homes o n hs) ≡ length hs
 length-homes o n [] = refl
@@ -40,13 +40,6 @@ pub places-homes : (o : Outline) (n : ℕ) (hs : List Home) → length (publics 
 places-homes o n [] = refl
 places-homes o n (h ∷ hs) =
     omega (arith, length-append (flat_map places_of (map (read_draft o n) h.items)) (publics (read_homes o (n + 1) hs)), length-append (flat_map published_name h.items) (public_names hs), places-items o n h.items, places-homes o (n + 1) hs)
-
--- the namespaces are those of an outline, with their items read
-pub record IsReading (o : Outline) (ns : List Namespace) : Type 0 where
-  pub long : length ns ≡ length o.homes
-  pub items : (s : ℕ) → s < length o.homes → (space_at ns s).items ≡ map (read_draft o s) (home_at o.homes s).items
-  pub rows : (s : ℕ) → s < length o.homes → (space_at ns s).rows ≡ rows_of o (home_at o.homes s).size
-  pub publics : length (publics ns) ≡ length (public_names o.homes)
 
 at_home : (o : Outline) (s : ℕ) → s < length o.homes → space_at (meaning o) s ≡ read_home o s (home_at o.homes s)
 at_home o s l = let z : 0 + s ≡ s = omega arith in space_at-homes o 0 o.homes s l ∙ ap (λ k. read_home o k (home_at o.homes s)) z

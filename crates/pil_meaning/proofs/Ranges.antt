@@ -21,7 +21,8 @@ use Rattle.pil_meaning.specs.Soundness.{IsInField, HasNumbers}
 use Rattle.pil_meaning.specs.Fitting.{FitsTerm, FitsSelector, FitsList, FitsLength, FitsLine, FitsSpace, NamedFits}
 use Rattle.pil_meaning.proofs.Nothing.{left_nil, right_nil, all_nil, unless_true, each_draft, home_all, all_left, all_right, all_parts}
 use Rattle.pil_meaning.proofs.Found.{found_polynomial, home_below}
-use Rattle.pil_meaning.proofs.Places.{IsReading, reading}
+use Rattle.pil_meaning.specs.Standing.{IsReading}
+use Rattle.pil_meaning.proofs.Places.{reading}
 use Rattle.pil_meaning.proofs.Widths.{width-read, column-within}
 use Rattle.pil_meaning.proofs.Terms.{no_place, constant_known}
 use Rattle.pil_meaning.proofs.Signs.{meaning-signs}

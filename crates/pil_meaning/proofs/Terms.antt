@@ -20,7 +20,8 @@ use Rattle.pil_meaning.specs.Marks.{is_marked_in, double_at}
 use Rattle.pil_meaning.specs.Soundness.{IsInField}
 use Rattle.pil_meaning.proofs.Nothing.{left_nil, right_nil, unless_true}
 use Rattle.pil_meaning.proofs.Found.{found_below, IsPolynomial, IsPolynomialAt, found_polynomial, home_below}
-use Rattle.pil_meaning.proofs.Places.{item_at-map, IsReading}
+use Rattle.pil_meaning.specs.Standing.{IsReading}
+use Rattle.pil_meaning.proofs.Places.{item_at-map}
 use Rattle.pil_meaning.proofs.Widths.{width-read, column-within}
 
 single : (ns : List ast.Namespace) (m k : ℕ) (b : Bool) (n : Option ℕ) → double_at ns (ast.mid m k b) n ≡ [] → is_some n ≡ true → is_marked_in (ast.space_at ns m).items k ≡ false

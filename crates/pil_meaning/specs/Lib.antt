@@ -5,3 +5,4 @@ pub mod Fitting
 pub mod Firsts
 pub mod Closed
 pub mod Given
+pub mod Standing

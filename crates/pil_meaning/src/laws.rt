@@ -2,6 +2,7 @@
 ghost use Rattle.pil_meaning.specs.Soundness.{UnbrokenIsSound};
 ghost use Rattle.pil_meaning.specs.Fitting.{NamedFits};
 ghost use Rattle.pil_meaning.specs.Closed.{NamedIsClosed};
+ghost use Rattle.pil_meaning.specs.Standing.{MeaningIsReading};
 ghost use Rattle.pil_meaning.specs.Given.{ShortIsCountable, TextHasSigns, TokensHaveNumbers, TokensHaveSigns};
 
 /// The law of soundness: a short file that breaks no rule of names, sizes, widths, cycles and marks
@@ -30,4 +31,10 @@ pub fn tokens_give()
     ensures signs { TokensHaveSigns }
     ensures text { TextHasSigns }
     ensures countable { ShortIsCountable }
+{}
+
+/// The law of reading: the meaning of an outline has its namespaces in their order, each with its rows
+/// and with its items read one by one, and its publics. The call computes nothing.
+pub fn meaning_is_reading()
+    ensures reading { MeaningIsReading }
 {}

@@ -10,7 +10,7 @@ mod marks;
 mod reading;
 
 pub use double::least_double_mark;
-pub use laws::{named_fits, named_is_closed, tokens_give, unbroken_is_sound};
+pub use laws::{meaning_is_reading, named_fits, named_is_closed, tokens_give, unbroken_is_sound};
 pub use reading::read_meaning;
 
 #[cfg(test)]

@@ -1,3 +1,4 @@
+pub mod Parted
 pub mod Texts
 pub mod Starts
 pub mod Printable

@@ -13,8 +13,8 @@ use Rattle.pil_names.specs.Outline.{Draft, column, defined, published, equal, in
 use Rattle.pil_names.specs.Finding.{Entry, numbered, constant_entries, home_entries, public_entries, published_name, public_names, polynomials_from, polynomial_entries, home_named, item_named}
 use Rattle.pil_names.specs.Wrongs.{stands, repeats, repeated_among, repeated, terms_of, terms_of_list, selectors_of, each_item, references, home_or, home_of_terms, unknown, unknown_in_size, unknown_in_draft, unknown_in_public, unknown_in_term, unknown_reference, unknown_in_home, unknown_in_item, space_place}
 use Rattle.pil_meaning.specs.Meaning.{named_item, read_in, read_reference, read_term, read_filter, read_tuple, read_draft, read_homes, meaning}
-use Rattle.pil_meaning.proofs.Nothing.{left_nil, right_nil, all_nil, each_draft, home_all}
-use Rattle.pil_meaning.proofs.Places.{reading}
+use Rattle.pil_meaning.specs.Standing.{MeaningIsReading}
+use Rattle.pil_print.proofs.Parted.{left_nil, right_nil, all_nil, each_draft, home_all}
 use Rattle.pil_print.specs.Statements.{ident, name_of, is_public, published as published_of}
 use Rattle.pil_print.proofs.Outlines.{draft, home, IsNamed, names-of-publics, not-there}
 use Rattle.pil_print.proofs.Rereads.{spaces_in, first_or, sel_terms, IsPlacedList, IsPlaced, ArePlaced, first-home, joined-same}
@@ -85,8 +85,8 @@ polynomial-names o ns s n (equal a b ∷ ds) = polynomial-names o ns s (n + 1) d
 polynomial-names o ns s n (inside a b ∷ ds) = polynomial-names o ns s (n + 1) ds
 polynomial-names o ns s n (against a b ∷ ds) = polynomial-names o ns s (n + 1) ds
 
-pub meaning-named : (o : Outline) → repeated o ≡ [] → IsNamed (meaning o)
-meaning-named o h =
+pub meaning-named : MeaningIsReading → (o : Outline) → repeated o ≡ [] → IsNamed (meaning o)
+meaning-named reading o h =
     let ns = meaning o in
     let first = right_nil (repeated_among (constant_entries o)) (repeated_among (home_entries o) ++ (repeated_among (public_entries o) ++ flat_map (λ (k : Home). repeated_among (polynomial_entries k)) o.homes)) h in
     let second = right_nil (repeated_among (home_entries o)) (repeated_among (public_entries o) ++ flat_map (λ (k : Home). repeated_among (polynomial_entries k)) o.homes) first in
@@ -183,8 +183,8 @@ module _ (o : Outline) (s : ℕ) where
       let all = right_nil (unknown_in_public o s (against ls rs)) (flat_map (unknown_in_term o s) (terms_of (against ls rs))) h in
       (placed-lists ls (flat-left (flat_map terms_of_list ls) (flat_map terms_of_list rs) all), placed-lists rs (flat-right (flat_map terms_of_list ls) (flat_map terms_of_list rs) all))
 
-pub meaning-placed : (o : Outline) → unknown o ≡ [] → ArePlaced (meaning o)
-meaning-placed o h = record {
+pub meaning-placed : MeaningIsReading → (o : Outline) → unknown o ≡ [] → ArePlaced (meaning o)
+meaning-placed reading o h = record {
   each = λ s l.
       let l' : s < length o.homes = omega (arith, (reading o).long) in
       let names = each_draft (unknown_in_draft o) o s (right_nil (flat_map (λ (k : Home). unknown_in_size o k.size) o.homes) (each_item (unknown_in_draft o) o) h) l' in

@@ -21,8 +21,7 @@ use Rattle.pil_names.specs.Wrongs.{each_from, each_item, unless, each_name, sele
 use Rattle.pil_meaning.specs.Meaning.{length_or_one, constant_columns, committed_columns, start_of_kind, number_or_zero, named_item, read_in, read_reference, read_term, read_filter, read_tuple, length_number, column_number, read_draft, read_homes, meaning}
 use Rattle.pil_meaning.specs.Marks.{double_of, double_at, double_reference, double_in_term, double_in_draft, double}
 use Rattle.pil_meaning.specs.Soundness.{IsUnbroken}
-use Rattle.pil_meaning.proofs.Mapped.{same-tuples}
-use Rattle.pil_meaning.proofs.Nothing.{left_nil, right_nil}
+use Rattle.pil_print.proofs.Parted.{left_nil, right_nil, same-tuples}
 use Rattle.pil_ast.specs.Sound.{IsAcyclic}
 use Rattle.pil_print.proofs.Meanings.{bytes_of, numbered-same, repeats-same}
 

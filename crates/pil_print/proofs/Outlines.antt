@@ -14,7 +14,7 @@ use Rattle.pil_names.specs.Outline.{Draft, column, defined, published, equal, in
 use Rattle.pil_names.specs.Finding.{Entry, found, numbered, home_entries, published_name, public_names, public_entries, polynomials_from}
 use Rattle.pil_names.specs.Wrongs.{stands, repeats, repeated_among}
 use Rattle.pil_meaning.specs.Meaning.{constant_columns, committed_columns, start_of_kind}
-use Rattle.pil_meaning.proofs.Nothing.{left_nil, right_nil}
+use Rattle.pil_print.proofs.Parted.{left_nil, right_nil}
 use Rattle.pil_print.specs.Statements.{ident, numeral, name_of, is_constant, is_commit, is_public, declared, Spot, spot_in, published as published_of, column_reference, expression, tuple, declaration, statement, statements_of, sentences_of}
 use Rattle.pil_print.proofs.Starts.{spot-here, spot-past, width-parts}
 

@@ -2,10 +2,8 @@
 use Rattle.std.proofs.Common.{ℕ, suc, ◌≡◌, ◌<◌, List, [], ◌∷◌, length, filter, All, Option, Some, None, refl, sym, ap, arith, subst, length-append}
 use Rattle.std.specs.Prelude.{flat_map}
 use Rattle.std.proofs.lemmas.List.Elements.{All-weaker}
-use Rattle.gold.specs.Field.{p}
-use Rattle.pil_ast.specs.Term.{Term, Tuples, Line, constant, commit, inter, published as published', identity, lookup, bus, Namespace, space_at, width, places_of, publics}
-use Rattle.pil_ast.specs.Sound.{IsTerm, IsList, IsItem, IsSound, IsNameable, IsSelector as IsSelector'}
-use Rattle.pil_ast.proofs.Parts.{each_from}
+use Rattle.pil_ast.specs.Term.{Term, num, col, mid, public, opp, ◌⊕◌, ◌⊖◌, ◌⊗◌, Tuples, Line, constant, commit, inter, published as published', identity, lookup, bus, Namespace, space_at, places_of, publics}
+use Rattle.pil_ast.specs.Sound.{IsTerm, IsList, IsItem, IsSound, IsSelector as IsSelector'}
 use Rattle.pil_print.specs.Statements.{is_public, published}
 use Rattle.pil_print.specs.Levels.{IsColumn, IsItemNumber, IsPrintable, IsSelector, IsPrintableList, IsPrintableItem}
 
@@ -24,13 +22,14 @@ publics-counted [] = refl
 publics-counted (n ∷ ns) = omega (arith, length-append (flat_map places_of n.items) (publics ns), length-append (filter is_public n.items) (published ns), publics-in n.items, publics-counted ns)
 
 pub printable-term : (ns : List Namespace) (s : ℕ) (e : Term) → s < length ns → IsTerm ns s e → IsPrintable ns e
-printable-term ns s e l h =
-    each_from (λ n. n < p) (λ n. Unit {0}) (λ n k b. (n ≡ s) × (k < width (space_at ns s).items)) (λ n k b. IsColumn ns n k)
-    (λ n k b. (n ≡ s) × IsNameable (space_at ns s).items k b) (λ n k b. IsItemNumber ns n k) (λ k. k < length (publics ns)) (λ k. k < length (published ns))
-    (λ n a. tt)
-    (λ n k b a. subst (λ m. IsColumn ns m k) (sym a.0) (l, a.1))
-    (λ n k b a. subst (λ m. IsItemNumber ns m k) (sym a.0) (l, a.1.0))
-    (λ k a. omega (arith, publics-counted ns)) e h
+printable-term ns s (num n) l h = tt
+printable-term ns s (col n k b) l h = subst (λ m. IsColumn ns m k) (sym h.0) (l, h.1)
+printable-term ns s (mid n k b) l h = subst (λ m. IsItemNumber ns m k) (sym h.0) (l, h.1.0)
+printable-term ns s (public k) l h = omega (arith, publics-counted ns, h)
+printable-term ns s (opp a) l h = printable-term ns s a l h
+printable-term ns s (a ⊕ b) l h = (printable-term ns s a l h.0, printable-term ns s b l h.1)
+printable-term ns s (a ⊖ b) l h = (printable-term ns s a l h.0, printable-term ns s b l h.1)
+printable-term ns s (a ⊗ b) l h = (printable-term ns s a l h.0, printable-term ns s b l h.1)
 
 printable-selector : (ns : List Namespace) (wide : ℕ) (a : Tuples) → IsList ns wide a → IsSelector ns a.sel
 printable-selector ns wide a h = one a.sel h.sel

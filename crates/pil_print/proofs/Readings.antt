@@ -4,6 +4,7 @@ use Rattle.std.proofs.lemmas.List.{map-append}
 use Rattle.std.proofs.lemmas.List.Sums.{sum_by-cons}
 use Rattle.pil_token.specs.declared.token.Token.{Token}
 use Rattle.pil_token.specs.declared.token.Placed.{Placed}
+use Rattle.pil_token.specs.Spelled.{SpellingLexes, BlankLexes, ApartLexes, WholeLexes, SpellingContinues}
 use Rattle.pil_token.specs.declared.token.Mark.{Mark}
 use Rattle.pil_token.specs.declared.token.Mark.TheVariants.{Equals, Semicolon, OpenParen, CloseParen, OpenBrace, CloseBrace, Comma, Plus, Minus, Star}
 use Rattle.pil_token.specs.declared.token.Word.TheVariants as words
@@ -16,12 +17,14 @@ use Rattle.pil_syntax.specs.declared.tree.Size.TheVariants as sizes
 use Rattle.pil_syntax.specs.Tree.{Term, num, col, constant, public, opp, group, ◌⊕◌, ◌⊖◌, ◌⊗◌, Filter, every, by_col, by_group, Tuple, Sentence, constant_is, namespace_of, columns, intermediate, public_is, identity, lookup, bus}
 use Rattle.pil_syntax.specs.Spelling.{mark, marked, word, name, numeral, seen, space_tokens, index_tokens, next_tokens, ref_tokens, term_tokens, filter_tokens, joined, tuple_tokens, declaration_tokens, kind_word, size_tokens, sentence_tokens, tokens_of}
 use Rattle.pil_syntax.specs.Grammar.{limits}
-use Rattle.pil_syntax.specs.Placeless.{token_of}
-use Rattle.pil_syntax.proofs.Placeless.{placeless}
-use Rattle.pil_ast.specs.Term.{Namespace}
+use Rattle.pil_syntax.specs.Placeless.{token_of, IsPlaceless}
+use Rattle.pil_syntax.specs.Printing.{IsDressing}
+use Rattle.pil_ast.specs.Term.{Line, Namespace, columns_of}
+use Rattle.pil_ast.specs.Sound.{IsItem}
 use Rattle.pil_names.specs.Outline.{Outline, outline_of}
 use Rattle.pil_meaning.specs.Meaning.{meaning}
-use Rattle.pil_meaning.specs.Soundness.{is_sign_of, is_sign, IsShort}
+use Rattle.pil_meaning.specs.Soundness.{is_sign_of, is_sign, IsShort, UnbrokenIsSound}
+use Rattle.pil_meaning.specs.Standing.{MeaningIsReading}
 use Rattle.pil_print.specs.Statements.{sentences_of}
 use Rattle.pil_print.specs.Laws.{ReadsBack}
 use Rattle.pil_print.proofs.Lexed.{whole_text, text-signs}
@@ -111,22 +114,23 @@ signs-counted (t ∷ ts) = omega (arith, sum_by-cons (λ (u : Placed). cond (is_
 signs-same : (ts us : List Placed) → map token_of ts ≡ map token_of us → IsShort us → IsShort ts
 signs-same ts us e h = omega (arith, h, signs-counted ts, signs-counted us, ap (sum_by (λ (t : Token). cond (is_sign_of t) 1 0)) e)
 
-pub reads_back : ReadsBack
-reads_back ss h =
-    let ns : List Namespace = meaning (outline_of ss) in
-    let qs = sentences_of ns in
-    let again = keeps_meaning ss h in
-    let text = whole_text qs again.accepted.tokens in
-    let moved = placeless.moved limits text.0 (tokens_of qs) qs text.2 (record { spelled = seen-all qs; file = again.accepted.file }) in
-    let alike = ignores-places qs moved.0 (ap (λ (o : Outline). o.constants) (outline-is ns)) moved.2 again.accepted.repeated again.accepted.unbroken in
-    record {
-      tokens = text.0;
-      statements = moved.0;
-      lexed = text.1;
-      reads = moved.1;
-      few = subst (λ n. n ≤ 2 ^ 20) (sym (text-signs qs again.accepted.tokens)) again.accepted.short;
-      short = signs-same text.0 (tokens_of qs) text.2 again.accepted.short;
-      repeated = alike.1;
-      unbroken = alike.2;
-      same = alike.0 ∙ again.same;
-    }
+module _ (spelling : SpellingLexes) (blank : BlankLexes) (apart : ApartLexes) (whole : WholeLexes) (continues : SpellingContinues) (placeless : IsPlaceless) (few : (ns : List Namespace) (s : ℕ) (l : Line) → IsItem ns s l → columns_of l ≤ 4096) (dressing : IsDressing) (reading : MeaningIsReading) (sound : UnbrokenIsSound) where
+  pub reads_back : ReadsBack
+  reads_back ss h =
+      let ns : List Namespace = meaning (outline_of ss) in
+      let qs = sentences_of ns in
+      let again = keeps_meaning few dressing reading sound ss h in
+      let text = whole_text spelling blank apart whole continues qs again.accepted.tokens in
+      let moved = placeless.moved limits text.0 (tokens_of qs) qs text.2 (record { spelled = seen-all qs; file = again.accepted.file }) in
+      let alike = ignores-places qs moved.0 (ap (λ (o : Outline). o.constants) (outline-is ns)) moved.2 again.accepted.repeated again.accepted.unbroken in
+      record {
+        tokens = text.0;
+        statements = moved.0;
+        lexed = text.1;
+        reads = moved.1;
+        few = subst (λ n. n ≤ 2 ^ 20) (sym (text-signs spelling blank apart whole continues qs again.accepted.tokens)) again.accepted.short;
+        short = signs-same text.0 (tokens_of qs) text.2 again.accepted.short;
+        repeated = alike.1;
+        unbroken = alike.2;
+        same = alike.0 ∙ again.same;
+      }

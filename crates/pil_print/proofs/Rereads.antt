@@ -16,7 +16,7 @@ use Rattle.pil_names.specs.Outline.{Draft, Home, Outline, draft_at}
 use Rattle.pil_names.specs.Finding.{found, polynomials_from, item_named}
 use Rattle.pil_names.specs.Wrongs.{terms_of_list, selectors_of, references, home_or, first_home, home_of_terms}
 use Rattle.pil_meaning.specs.Meaning.{named_item, read_in, read_reference, read_term, read_filter, read_tuple, length_number, column_number, read_draft, read_homes, meaning}
-use Rattle.pil_meaning.proofs.Mapped.{same-tuples}
+use Rattle.pil_print.proofs.Parted.{same-tuples}
 use Rattle.pil_print.specs.Statements.{numeral, name_of, is_constant, is_commit, declared, spot_in, index_in, mark_of, reference_to, column_reference, inter_reference, named, expression, selector_of, selector, tuple}
 use Rattle.pil_print.proofs.Printable.{publics-counted}
 use Rattle.pil_print.proofs.Outlines.{draft, home, outline, home-at, draft-at, IsNamed, space-found, public-found, IsPolynomial, polynomial-found, IsAt, column-place, start-constant, start-commit}

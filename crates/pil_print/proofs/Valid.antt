@@ -1,5 +1,5 @@
 -- A printed text has names and numbers that a text can have, and the printed numbers are of the field.
-use Rattle.std.proofs.Common.{ℕ, zero, suc, ◌≡◌, ◌<◌, ◌+◌, List, [], ◌∷◌, ◌++◌, Bool, true, false, length, map, filter, Option, Some, None, refl, sym, ap, subst, arith, All, inl, inr}
+use Rattle.std.proofs.Common.{ℕ, zero, suc, ◌≡◌, ◌<◌, ◌≤◌, ◌+◌, List, [], ◌∷◌, ◌++◌, Bool, true, false, length, map, filter, Option, Some, None, refl, sym, ap, subst, arith, All, inl, inr}
 use Rattle.std.specs.Prelude.{flat_map, option_map}
 use Rattle.std.proofs.lemmas.List.Elements.{All-nil, All-cons, All-head, All-tail, All-append, All-map, All-weaker}
 use Rattle.gold.specs.Field.{p}
@@ -20,13 +20,12 @@ use Rattle.pil_syntax.specs.Spelling.{mark, marked, word, index_tokens, next_tok
 use Rattle.pil_ast.specs.Term as ast
 use Rattle.pil_ast.specs.Term.{Namespace, Line, Tuples, item_at, space_at, columns_of, width}
 use Rattle.pil_ast.specs.Sound.{IsTerm, IsSelector, IsList, IsItem, IsLength, IsInter, IsSound}
-use Rattle.pil_ast.proofs.Limits.{columns-few}
 use Rattle.pil_names.specs.Outline.{Draft, column, defined, published, equal, inside, against, Named, Home, Outline, drafts_of, items_before, homes_of, outline_of, home_at}
 use Rattle.pil_names.specs.Wrongs.{terms_of, terms_of_list}
 use Rattle.pil_meaning.specs.Meaning.{read_draft, read_homes, meaning}
 use Rattle.pil_meaning.specs.Soundness.{IsInField, HasNumbers}
-use Rattle.pil_meaning.proofs.Nothing.{home_all}
-use Rattle.pil_meaning.proofs.Places.{reading}
+use Rattle.pil_meaning.specs.Standing.{MeaningIsReading}
+use Rattle.pil_print.proofs.Parted.{home_all}
 use Rattle.pil_print.specs.Statements.{numeral, name_of, is_constant, is_commit, is_public, declared, spot_in, index_in, mark_of, reference_to, column_reference, published as published_of, named, expression, selector_of, selector, tuple, statement, statements_of, sentences_of}
 use Rattle.pil_print.proofs.Printable.{publics-counted}
 use Rattle.pil_print.proofs.Outlines.{draft, home, outline, column-place}
@@ -142,7 +141,7 @@ mark-tokens : (b : Bool) → AreTokens (next_tokens (mark_of b))
 mark-tokens true = (tt, tt)
 mark-tokens false = tt
 
-module _ (ns : List Namespace) (names : HaveNames ns) (sound : IsSound ns) where
+module _ (few-columns : (ns : List Namespace) (s : ℕ) (l : Line) → IsItem ns s l → columns_of l ≤ 4096) (ns : List Namespace) (names : HaveNames ns) (sound : IsSound ns) where
   ref-tokens : (m : ℕ) (item : Line) (i : Option Number) (b : Bool) → m < length ns → IsName (name_of item) → AreTokens (index_tokens i) → AreTokens (ref_tokens (reference_to ns m item i b))
   ref-tokens m item i b l n h = (names.spaces m l, (tt, (n, joined-tokens (index_tokens i) (next_tokens (mark_of b)) h (mark-tokens b))))
 
@@ -152,9 +151,9 @@ module _ (ns : List Namespace) (names : HaveNames ns) (sound : IsSound ns) where
       let spot = spot_in (declared (space_at ns m).items) k in
       elim (column-place (space_at ns m).items k h) [
         | inl at ↦ ref-tokens m spot.item (index_in spot.item spot.index) b l (constant-name spot.item at.kind (subst IsNamedLine at.item (all-at IsNamedLine ls at.place (names.items m l) at.within)))
-            (index-tokens spot.item spot.index (omega (arith, at.index, columns-few ns m spot.item (subst (IsItem ns m) at.item (all-at (IsItem ns m) ls at.place (sound.spaces m l).items at.within)))))
+            (index-tokens spot.item spot.index (omega (arith, at.index, few-columns ns m spot.item (subst (IsItem ns m) at.item (all-at (IsItem ns m) ls at.place (sound.spaces m l).items at.within)))))
         | inr at ↦ ref-tokens m spot.item (index_in spot.item spot.index) b l (commit-name spot.item at.1.kind (subst IsNamedLine at.1.item (all-at IsNamedLine ls at.1.place (names.items m l) at.1.within)))
-            (index-tokens spot.item spot.index (omega (arith, at.1.index, columns-few ns m spot.item (subst (IsItem ns m) at.1.item (all-at (IsItem ns m) ls at.1.place (sound.spaces m l).items at.1.within)))))
+            (index-tokens spot.item spot.index (omega (arith, at.1.index, few-columns ns m spot.item (subst (IsItem ns m) at.1.item (all-at (IsItem ns m) ls at.1.place (sound.spaces m l).items at.1.within)))))
       ]
 
   named-tokens : (m : ℕ) (e : ast.Term) → m < length ns → IsTerm ns m e → AreTokens (term_tokens (named ns e))
@@ -246,8 +245,8 @@ module _ (ns : List Namespace) (names : HaveNames ns) (sound : IsSound ns) where
         ),
       )
 
-pub tokens-again : (ns : List Namespace) → HaveNames ns → IsSound ns → All (λ t. IsToken t.token) (tokens_of (sentences_of ns))
-tokens-again ns names sound = from-tokens (tokens_of (sentences_of ns)) (spaces-tokens ns names sound 0 ns (λ j l. let z : j ≡ 0 + j = omega arith in (subst (λ k. k < length ns) z l, ap (space_at ns) (sym z))))
+pub tokens-again : ((ns : List Namespace) (s : ℕ) (l : Line) → IsItem ns s l → columns_of l ≤ 4096) → (ns : List Namespace) → HaveNames ns → IsSound ns → All (λ t. IsToken t.token) (tokens_of (sentences_of ns))
+tokens-again few ns names sound = from-tokens (tokens_of (sentences_of ns)) (spaces-tokens few ns names sound 0 ns (λ j l. let z : j ≡ 0 + j = omega arith in (subst (λ k. k < length ns) z l, ap (space_at ns) (sym z))))
 
 -- the names of a file are names, and so are those of its meaning
 abbrev IsNamedDraft : Draft → Type 0
@@ -315,8 +314,8 @@ space-name o n [] s l = absurd (omega arith)
 space-name o n (h ∷ hs) zero l = refl
 space-name o n (h ∷ hs) (suc s) l = space-name o (n + 1) hs s (omega arith)
 
-pub meaning-names : (ss : List Sentence) → All (λ t. IsToken t.token) (tokens_of ss) → HaveNames (meaning (outline_of ss))
-meaning-names ss h =
+pub meaning-names : MeaningIsReading → (ss : List Sentence) → All (λ t. IsToken t.token) (tokens_of ss) → HaveNames (meaning (outline_of ss))
+meaning-names reading ss h =
     let o = outline_of ss in
     let named' = file-named ss (are-tokens (tokens_of ss) h) in
     record {

@@ -1,5 +1,5 @@
--- What is true of the tokens of each text, and of each printed text.
-use Rattle.std.specs.Prelude.{ℕ, ◌≡◌, ◌≤◌, ◌^◌, false, List, [], map, count_by, All, Ok}
+-- What is true of each printed text.
+use Rattle.std.specs.Prelude.{◌≡◌, ◌≤◌, ◌^◌, false, List, [], map, count_by, All, Ok}
 use Rattle.pil_token.specs.declared.token.Placed.{Placed}
 use Rattle.pil_token.specs.Spelled.{IsToken}
 use Rattle.pil_token.specs.Tokens.{lexed}
@@ -20,10 +20,6 @@ use Rattle.pil_print.specs.Printed.{text_of, printed}
 -- the text of statements has their tokens, which may stand at other places
 abbrev pub IsReadAsTokens : Type 0
 IsReadAsTokens = (ss : List Sentence) → All (λ t. IsToken t.token) (tokens_of ss) → (ts : List Placed) × (lexed (text_of ss) ≡ Ok ts) × (map token_of ts ≡ map token_of (tokens_of ss))
-
--- the tokens that are read of a text are tokens that a text can have
-abbrev pub TextHasTokens : Type 0
-TextHasTokens = (text : List ℕ) (ts : List Placed) → lexed text ≡ Ok ts → All (λ t. IsToken t.token) ts
 
 -- statements that are no reason for a refusal
 pub record IsAccepted (ss : List Sentence) : Type 0 where

@@ -8,5 +8,5 @@ mod lists;
 mod printing;
 mod tables;
 
-pub use laws::{lexed_tokens, printed_meaning, printed_text, printed_tokens};
+pub use laws::{printed_meaning, printed_text, printed_tokens};
 pub use printing::print;

@@ -7,7 +7,7 @@ ghost use Rattle.pil_print.specs.Statements.{is_constant as is_constant_line, is
 ghost use Rattle.pil_print.specs.Tables.{firsts_from, IsTable, IsNames, text_names};
 ghost use Rattle.pil_print.specs.declared.tables.Columns.{Columns as ColumnsOf};
 
-use pil_ast::{Item, Pil, Space};
+use pil_ast::{Item, Pil, Space, limit_laws};
 use sqlite_items::Items;
 use std::alloc::{AllocError, Global};
 
@@ -173,6 +173,7 @@ fn tables<'a>(alloc: Global, spaces: &'a [Space]) -> Result<Items<Columns<'a>>, 
     ensures length { IfOk result (λ ts. length ts ≡ length spaces.now) }
     ensures each { IfOk result (λ ts. (s : ℕ) (c : ColumnsOf) → slice_get ts s ≡ Some c → IsTable (declared_of (space_at (map namespace spaces.now) s).items) c) }
 {
+    limit_laws();
     let mut tables = Items::new(alloc);
     for space in spaces {
         tables.push(table(alloc, space.items.as_slice())?)?;

@@ -1,5 +1,5 @@
 -- The clauses of an error, from what stopped the reading.
-use Rattle.std.proofs.Common.{◌≡◌, ℕ, List, [], Ok, Err, sym, subst, ◌∙◌}
+use Rattle.std.proofs.Common.{◌≡◌, ℕ, List, [], ◌∷◌, Ok, Err, refl, sym, subst, ◌∙◌}
 use Rattle.pil_token.specs.declared.token.Placed.{Placed}
 use Rattle.pil_syntax.specs.declared.tree.SyntaxErr.{SyntaxErr}
 use Rattle.pil_syntax.specs.declared.tree.SyntaxErrKind.{SyntaxErrKind}
@@ -8,7 +8,7 @@ use Rattle.pil_syntax.specs.declared.failure.ReadError.{ReadError}
 use Rattle.pil_syntax.specs.declared.failure.ReadError.TheVariants as errors
 use Rattle.pil_syntax.specs.Tree.{Sentence}
 use Rattle.pil_syntax.specs.Grammar.{Limits}
-use Rattle.pil_syntax.specs.Refusal.{Reads, Refuses, UnlessMemory}
+use Rattle.pil_syntax.specs.Refusal.{Reads, Refuses, IsRefused, UnlessMemory}
 use Rattle.pil_syntax.specs.State.{between}
 use Rattle.pil_syntax.specs.Machine.{run, Fails, refusal_of}
 use Rattle.pil_syntax.proofs.Whole.{reads_goes}
@@ -18,6 +18,13 @@ unless : (k : SyntaxErrKind) (P : Type 0) → P → UnlessMemory k P
 unless Unexpected P p = p
 unless TooDeep P p = p
 unless NoMemory P p = tt
+
+-- the grammar refuses nothing for want of memory
+never : (m : Limits) (front rest : List Placed) (k : SyntaxErrKind) → IsRefused m front rest k → k ≡ NoMemory → ⊥
+never m front [] NoMemory r e = r
+never m front (t ∷ rest) NoMemory r e = r
+never m front rest Unexpected r e = cc
+never m front rest TooDeep r e = cc
 
 module _ (m : Limits) (ts : List Placed) (end : ℕ) where
   refused_error : (x : ReadError) → Fails x (run m [] between ts) → UnlessMemory (refusal_of end ts x).kind (Refuses m ts end (refusal_of end ts x))
@@ -40,3 +47,10 @@ module _ (m : Limits) (ts : List Placed) (end : ℕ) where
 
   pub first : (x : ReadError) (e : SyntaxErr) → Fails x (run m [] between ts) → e ≡ refusal_of end ts x → (f : SyntaxErr) → Refuses m ts end f → UnlessMemory e.kind (e ≡ f)
   first x e h q f r = subst (λ (y : SyntaxErr). UnlessMemory y.kind (y ≡ f)) (sym q) (one_error x h f r)
+
+  place_error : (x : ReadError) → Fails x (run m [] between ts) → (refusal_of end ts x).kind ≡ NoMemory → (refusal_of end ts x).at ≡ 0
+  place_error errors.Memory h e = refl
+  place_error (errors.Fault f) h e = let r = refuses m ts end f h in absurd (never m r.front r.rest f.kind r.refused e)
+
+  pub without_place : (x : ReadError) (e : SyntaxErr) → Fails x (run m [] between ts) → e ≡ refusal_of end ts x → e.kind ≡ NoMemory → e.at ≡ 0
+  without_place x e h q = subst (λ (y : SyntaxErr). y.kind ≡ NoMemory → y.at ≡ 0) (sym q) (place_error x h)

@@ -1,8 +1,11 @@
 //! What is true of all tokens and of every syntax.
-ghost use Rattle.std.specs.Prelude.{ℕ, List};
+ghost use Rattle.std.specs.Prelude.{◌≡◌, ℕ, List, [], Ok};
 ghost use Rattle.pil_token.specs.declared.token.Placed.{Placed};
 ghost use Rattle.pil_syntax.specs.Grammar.{limits};
-ghost use Rattle.pil_syntax.specs.Refusal.{IsDecided};
+ghost use Rattle.pil_syntax.specs.Machine.{run};
+ghost use Rattle.pil_syntax.specs.Refusal.{IsDecided, Reads};
+ghost use Rattle.pil_syntax.specs.State.{between};
+ghost use Rattle.pil_syntax.specs.Tree.{Sentence};
 ghost use Rattle.pil_syntax.specs.Placeless.{IsPlaceless};
 ghost use Rattle.pil_syntax.specs.Printing.{IsDressing};
 
@@ -23,4 +26,10 @@ pub fn moved_tokens()
 /// The call computes nothing.
 pub fn files_are_decided()
     ensures decided { (ts : List Placed) (end : ℕ) → IsDecided limits ts end }
+{}
+
+/// The law of computing: what the machine makes of tokens is a file that they spell. The call computes
+/// nothing.
+pub fn runs_are_files()
+    ensures file { (ts : List Placed) (ss : List Sentence) → run limits [] between ts ≡ Ok ss → Reads limits ts ss }
 {}

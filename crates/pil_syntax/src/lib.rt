@@ -11,7 +11,7 @@ mod pieces;
 mod reading;
 mod tree;
 
-pub use laws::{files_are_decided, moved_tokens, printed_parentheses};
+pub use laws::{files_are_decided, moved_tokens, printed_parentheses, runs_are_files};
 pub use reading::read_syntax;
 pub use tree::{
     ColumnKind, Declaration, Expr, ExprList, Ident, Number, Reference, Selector, Size, Statement,

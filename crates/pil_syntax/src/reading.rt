@@ -6,6 +6,7 @@ ghost use Rattle.pil_syntax.specs.Refusal.{Reads, Refuses, UnlessMemory, place};
 ghost use Rattle.pil_syntax.specs.Shown.{sentence, sentences};
 ghost use Rattle.pil_syntax.specs.State.{between};
 ghost use Rattle.pil_syntax.specs.Tree.{Sentence};
+ghost use Rattle.pil_syntax.specs.declared.tree.SyntaxErrKind.TheVariants.{NoMemory};
 ghost use Rattle.pil_syntax.specs.Machine.{run, has_namespace, begun_after, Ends, Gives, StartsInner, refusal_of};
 
 use crate::declaring::{constant, namespace, pol, public};
@@ -146,7 +147,7 @@ fn error_at(tokens: &[Placed], end: u64, error: ReadError) -> SyntaxErr
 /// specs/Grammar.antt: parentheses and prefix minuses are nested at most 32 deep, and an expression has at
 /// most 128 operators. `end` is the length of the text.
 /// Errors: `Unexpected` and `TooDeep` at the first token up to which the tokens begin no such file,
-/// and `NoMemory`.
+/// and `NoMemory` at 0.
 pub fn read_syntax(alloc: Global, tokens: &[Placed], end: u64) -> Result<Syntax, SyntaxErr>
     // What is read is a file within the limits, spelled by these tokens.
     ensures found { IfOk result (λ s. Reads limits tokens.now (sentences s)) }
@@ -156,6 +157,8 @@ pub fn read_syntax(alloc: Global, tokens: &[Placed], end: u64) -> Result<Syntax,
     ensures only { (ss : List Sentence) → Reads limits tokens.now ss → MatchResult result (λ s. sentences s ≡ ss) (λ e. UnlessMemory e.kind ⊥) }
     // And so is every other refusal.
     ensures first { (e : SyntaxErrOf) → Refuses limits tokens.now end e → MatchResult result (λ s. ⊥) (λ f. UnlessMemory f.kind (f ≡ e)) }
+    // Want of memory has no place.
+    ensures memory { IfErr result (λ e. e.kind ≡ NoMemory → e.at ≡ 0) }
 {
     match file(alloc, tokens) {
         Ok(syntax) => Ok(syntax),

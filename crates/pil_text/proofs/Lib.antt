@@ -1,4 +1,6 @@
 mod Order
+mod Ascending
+mod Computed
 mod Cyclic
 mod Spaces
 mod Whole

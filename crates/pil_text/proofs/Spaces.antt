@@ -16,7 +16,7 @@ use Rattle.pil_names.specs.Shown.{draft, home}
 use Rattle.pil_meaning.specs.Meaning.{meaning, read_draft}
 use Rattle.pil_meaning.specs.Closed.{IsClosed}
 use Rattle.pil_meaning.specs.Marks.{AreWritable, IsWritable}
-use Rattle.pil_meaning.proofs.Places.{length-homes, space_at-homes}
+use Rattle.pil_meaning.specs.Standing.{IsReading}
 use Rattle.pil_text.specs.Refusal.{IsCyclic, IsCyclicIn, place_of}
 use Rattle.pil_text.specs.Cyclic.{IsLeastOf, IsFlagged, IsCyclicBelow}
 use Rattle.pil_text.proofs.Cyclic.{home_told, home_more, least_same}
@@ -41,9 +41,9 @@ no_items_past [] s l = refl
 no_items_past (n ∷ ns) zero l = absurd (omega (arith, l))
 no_items_past (n ∷ ns) (suc s) l = no_items_past ns s (omega (arith, l))
 
-module _ (o : Outline) (hs : List H.Home) (spaces : List Space) (homes : o.homes ≡ map home hs) (meant : map namespace spaces ≡ meaning o) where
+module _ (o : Outline) (reading : IsReading o (meaning o)) (hs : List H.Home) (spaces : List Space) (homes : o.homes ≡ map home hs) (meant : map namespace spaces ≡ meaning o) where
   pub as_many : length spaces ≡ length hs
-  as_many = sym (length-map spaces namespace) ∙ ap length meant ∙ length-homes o 0 o.homes ∙ ap length homes ∙ length-map hs home
+  as_many = sym (length-map spaces namespace) ∙ ap length meant ∙ reading.long ∙ ap length homes ∙ length-map hs home
 
   pub items_here : (s : ℕ) (x : Space) → s < length hs → x ≡ get_or spaces s x → (space_at (meaning o) s).items ≡ map line x.items
   items_here s x l e = ap (λ ns. (space_at ns s).items) (sym meant) ∙ space_here spaces s x (omega (arith, l, as_many)) e
@@ -57,12 +57,12 @@ module _ (o : Outline) (hs : List H.Home) (spaces : List Space) (homes : o.homes
   pub same_count : (s : ℕ) (x : Space) (h : H.Home) → s < length hs → x ≡ get_or spaces s x → h ≡ get_or hs s h → length x.items ≡ length h.items
   same_count s x h l at_space at_home =
       sym (length-map x.items line) ∙ ap length (sym (items_here s x l at_space))
-      ∙ ap (λ n. length n.items) (space_at-homes o 0 o.homes s (omega (arith, l, many_homes))) ∙ length-map (home_at o.homes s).items (read_draft o (0 + s))
+      ∙ ap length (reading.items s (omega (arith, l, many_homes))) ∙ length-map (home_at o.homes s).items (read_draft o s)
       ∙ ap length (drafts_here s h l at_home) ∙ length-map h.items draft
 
   pub closed_here : (s : ℕ) (x : Space) → All (λ n. IsClosed n.items) (meaning o) → s < length hs → x ≡ get_or spaces s x → IsClosed (map line x.items)
   closed_here s x closed l e =
-      let inside : s < length (meaning o) = omega (arith, l, length-homes o 0 o.homes, many_homes) in
+      let inside : s < length (meaning o) = omega (arith, l, reading.long, many_homes) in
       subst IsClosed (items_here s x l e) (all_at (λ n. IsClosed n.items) (meaning o) s closed inside)
 
   -- one more namespace, as the loop has it
@@ -80,7 +80,7 @@ module _ (o : Outline) (hs : List H.Home) (spaces : List Space) (homes : o.homes
     where
       by : (s < length hs) ⊎ (length hs ≤ s) → s < length hs
       by (inl l) = l
-      by (inr l) = absurd (names_nothing c.item c.item (subst (λ ls. DependsOn ls c.item c.item) (no_items_past (meaning o) s (omega (arith, l, length-homes o 0 o.homes, many_homes))) c.cycle))
+      by (inr l) = absurd (names_nothing c.item c.item (subst (λ ls. DependsOn ls c.item c.item) (no_items_past (meaning o) s (omega (arith, l, reading.long, many_homes))) c.cycle))
 
   pub all_found : (n : ℕ) (found : Option ℕ) → length hs ≤ n → IsLeastOf (IsCyclicBelow o n) found → IsLeastOf (IsCyclic o) found
   all_found n found l p = least_same (IsCyclicBelow o n) (IsCyclic o) found (λ at f. (f.space, f.inside)) (λ at c. record { space = c.0; below = let k = inside_only c.0 at c.1 in omega (arith, l, k); inside = c.1 }) p

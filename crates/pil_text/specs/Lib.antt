@@ -1,3 +1,4 @@
 pub mod Refusal
 pub mod Text
 pub mod Cyclic
+pub mod Computed

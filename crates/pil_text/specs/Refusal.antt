@@ -78,6 +78,14 @@ pub record IsClear (n : ℕ) (o : Outline) : Type 0 where
   pub cyclic : 7 < n → (at : ℕ) → IsCyclic o at → ⊥
   pub double : 8 < n → double o ≡ []
 
+-- want of memory, which has no place
+abbrev pub no_memory : PilErr
+no_memory = record { kind = NoMemory; at = 0 }
+
+-- where memory ran out the place is 0
+abbrev pub HasPlace : PilErr → Type 0
+HasPlace e = e.kind ≡ NoMemory → e.at ≡ 0
+
 -- a fact about a refusal, which says nothing where memory ran out
 abbrev pub UnlessMemory : PilErrKind → Type 0 → Type 0
 UnlessMemory NoMemory P = Unit {0}

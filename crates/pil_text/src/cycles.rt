@@ -9,6 +9,7 @@ ghost use Rattle.pil_text.specs.Cyclic.{IsLeastOf, IsFlagged, IsCyclicBelow};
 
 use pil_ast::Pil;
 use pil_cycles::on_cycles;
+use pil_meaning::meaning_is_reading;
 use pil_names::{Draft, Outline, lesser};
 use std::alloc::{AllocError, Global};
 
@@ -49,6 +50,7 @@ pub fn least_cyclic(alloc: Global, outline: &Outline, pil: &Pil) -> Result<Optio
     requires closed { All (λ n. IsClosed n.items) (meaning (outlined outline.now)) }
     ensures { IfOk result (λ found. IsLeastOf (IsCyclic (outlined outline.now)) found) }
 {
+    meaning_is_reading();
     let homes = outline.homes.as_slice();
     let spaces = pil.spaces.as_slice();
     let mut found = None;

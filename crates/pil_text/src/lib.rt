@@ -11,6 +11,6 @@ mod rules;
 mod tests;
 
 pub use error::{PilErr, PilErrKind};
-pub use laws::{one_answer, printed_reads_back};
+pub use laws::{computed_reads, one_answer, printed_reads_back, readings_are_sound};
 pub use pil_print::print;
 pub use reading::read;

@@ -1,12 +1,14 @@
 //! Reading a text.
 ghost use Rattle.std.specs.Prelude.{◌≡◌, ℕ, List, IfOk, IfErr};
+ghost use Rattle.pil_ast.specs.Term.{Namespace};
 ghost use Rattle.pil_syntax.specs.Shown.{sentences};
 ghost use Rattle.pil_ast.specs.Tree.{namespaces};
 ghost use Rattle.pil_ast.specs.Sound.{IsSound};
-ghost use Rattle.pil_text.specs.Refusal.{UnlessMemory};
+ghost use Rattle.pil_text.specs.Refusal.{HasPlace, UnlessMemory, no_memory};
 ghost use Rattle.pil_text.specs.Text.{Reads, Fails, IsShort, Spells, kind_of_lex, kind_of_syntax};
 
 use crate::error::{PilErr, PilErrKind};
+use crate::laws::one_answer;
 use crate::resolve::resolve;
 use pil_ast::Pil;
 use pil_cycles::without_cycle_are_ranked;
@@ -46,6 +48,7 @@ fn as_file(error: SyntaxErr) -> PilErr
 fn statements(alloc: Global, text: &[u8]) -> Result<Syntax, PilErr>
     ensures found { IfOk result (λ syntax. Spells text.now (sentences syntax)) }
     ensures refused { IfErr result (λ e. UnlessMemory e.kind (Fails text.now e)) }
+    ensures place { IfErr result HasPlace }
 {
     let tokens = match tokens(alloc, text) {
         Ok(tokens) => tokens,
@@ -57,19 +60,13 @@ fn statements(alloc: Global, text: &[u8]) -> Result<Syntax, PilErr>
     }
 }
 
-/// The tree that a text means.
-///
-/// # Errors
-///
-/// The first rule that the text breaks, in the order of [`PilErrKind`], with the least offset at which it
-/// does, or `NoMemory`.
-pub fn read(alloc: Global, text: &[u8]) -> Result<Pil, PilErr>
+/// The tree that a text means, or the first rule that it breaks, at its least place.
+fn parse(alloc: Global, text: &[u8]) -> Result<Pil, PilErr>
     requires { IsShort text.now }
-    // The tree is what the text means.
     ensures found { IfOk result (λ pil. Reads text.now (namespaces pil)) }
     ensures sound { IfOk result (λ pil. IsSound (namespaces pil)) }
-    // The refusal is the text's.
     ensures refused { IfErr result (λ e. UnlessMemory e.kind (Fails text.now e)) }
+    ensures place { IfErr result HasPlace }
 {
     tokens_give();
     named_is_closed();
@@ -82,4 +79,26 @@ pub fn read(alloc: Global, text: &[u8]) -> Result<Pil, PilErr>
         Ok(pil) => Ok(pil),
         Err(error) => Err(error),
     }
+}
+
+/// The tree that a text means.
+///
+/// # Errors
+///
+/// The first rule that the text breaks, in the order of [`PilErrKind`], with the least offset at which it
+/// does, or `NoMemory` at 0.
+pub fn read(alloc: Global, text: &[u8]) -> Result<Pil, PilErr>
+    requires { IsShort text.now }
+    // The tree is what the text means.
+    ensures found { IfOk result (λ pil. Reads text.now (namespaces pil)) }
+    ensures sound { IfOk result (λ pil. IsSound (namespaces pil)) }
+    // The refusal is the text's.
+    ensures refused { IfErr result (λ e. UnlessMemory e.kind (Fails text.now e)) }
+    ensures place { IfErr result HasPlace }
+    // A text that is known to read as something is read as that, unless memory runs out.
+    ensures same { (ns : List Namespace) → Reads text.now ns → IfOk result (λ pil. namespaces pil ≡ ns) }
+    ensures only { (ns : List Namespace) → Reads text.now ns → IfErr result (λ e. e ≡ no_memory) }
+{
+    one_answer();
+    parse(alloc, text)
 }

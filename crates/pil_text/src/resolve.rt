@@ -4,7 +4,7 @@ ghost use Rattle.pil_ast.specs.Tree.{namespaces};
 ghost use Rattle.pil_names.specs.Directory.{IsDirectory, IsCountable};
 ghost use Rattle.pil_names.specs.Shown.{outlined};
 ghost use Rattle.pil_meaning.specs.Meaning.{meaning};
-ghost use Rattle.pil_text.specs.Refusal.{Breaks, BreaksOrClears, IsClear, IsReadable, UnlessMemory};
+ghost use Rattle.pil_text.specs.Refusal.{Breaks, BreaksOrClears, HasPlace, IsClear, IsReadable, UnlessMemory};
 
 use crate::cycles::least_cyclic;
 use crate::error::{PilErr, PilErrKind};
@@ -26,7 +26,8 @@ fn check_tree(
     requires listed { IsDirectory (outlined outline.now) directory.now }
     requires meant { namespaces pil.now ≡ meaning (outlined outline.now) }
     requires named { IsClear 7 (outlined outline.now) }
-    ensures { BreaksOrClears (outlined outline.now) 9 result }
+    ensures told { BreaksOrClears (outlined outline.now) 9 result }
+    ensures place { IfErr result HasPlace }
 {
     least_is_least();
     without_cycle_are_ranked();
@@ -45,6 +46,7 @@ pub fn resolve(alloc: Global, outline: &Outline) -> Result<Pil, PilErr>
     ensures meant { IfOk result (λ pil. namespaces pil ≡ meaning (outlined outline.now)) }
     ensures clear { IfOk result (λ _. IsClear 9 (outlined outline.now)) }
     ensures refused { IfErr result (λ e. UnlessMemory e.kind (Breaks (outlined outline.now) e)) }
+    ensures place { IfErr result HasPlace }
 {
     let (directory, repeated) = read_directory(alloc, outline)?;
     check_names(outline, &directory, repeated)?;

@@ -1,10 +1,10 @@
 //! The rules of names, sizes and widths, in their order.
-ghost use Rattle.std.specs.Prelude.{◌≡◌};
+ghost use Rattle.std.specs.Prelude.{◌≡◌, IfErr};
 ghost use Rattle.pil_names.specs.Least.{least};
 ghost use Rattle.pil_names.specs.Wrongs.{repeated as repeated_places};
 ghost use Rattle.pil_names.specs.Directory.{IsCountable, IsDirectory};
 ghost use Rattle.pil_names.specs.Shown.{outlined};
-ghost use Rattle.pil_text.specs.Refusal.{BreaksOrClears};
+ghost use Rattle.pil_text.specs.Refusal.{BreaksOrClears, HasPlace};
 
 use crate::error::{PilErr, PilErrKind};
 use pil_names::{
@@ -21,7 +21,8 @@ pub fn check_names(
     requires listed { IsDirectory (outlined outline.now) directory.now }
     requires countable { IsCountable (outlined outline.now) }
     requires repeated { repeated ≡ least (repeated_places (outlined outline.now)) }
-    ensures { BreaksOrClears (outlined outline.now) 7 result }
+    ensures told { BreaksOrClears (outlined outline.now) 7 result }
+    ensures place { IfErr result HasPlace }
 {
     least_is_least();
     if let Some(at) = repeated {

@@ -19,7 +19,7 @@ use Rattle.pil_token.specs.declared.token.LexErr.{LexErr}
 use Rattle.pil_token.specs.declared.token.Piece.TheVariants.{Blank, Whole}
 use Rattle.pil_token.specs.Spelling.{begins_name, continues_name, IsWordLike, word_bytes, word_of, mark_byte, mark_of}
 use Rattle.pil_token.specs.Tokens.{is_blank, begins, word_like, worded, numeral, digits_at, hexadecimal_at, lexed, lexed_from, after, led}
-use Rattle.pil_token.specs.Spelled.{IsToken, spelling, ends_word, IsApart, LexesTo}
+use Rattle.pil_token.specs.Spelled.{IsToken, spelling, ends_word, IsApart, LexesTo, is_mark}
 use Rattle.pil_token.proofs.Fronts.{front_goes_on, front_stops, begins_continues}
 use Rattle.pil_token.proofs.Pieces.{begins_cases}
 use Rattle.pil_token.proofs.Passing.{blank_step, whole_step}
@@ -253,3 +253,13 @@ pub lexes_whole : (text : List ℕ) (ts : List Token) → LexesTo text ts → (p
 lexes_whole text ts h =
     let w = h 0 [] (neither_way (ends_word text)) in
     (w.0, w.1, ap (λ (l : List ℕ). lexed l) (sym (append-nil text)) ∙ (w.2 ∙ ap Ok (append-nil w.0)))
+
+word_like_continues : (bs : List ℕ) → IsWordLike bs → list_all continues_name bs ≡ true
+word_like_continues [] h = absurd h
+word_like_continues (b ∷ bs) h = rw (begins_continues b h.0) h.1
+
+pub spelling_continues : (t : Token) → IsToken t → is_mark t ≡ false → list_all continues_name (spelling t) ≡ true
+spelling_continues (token.Name n) h e = word_like_continues n h.0
+spelling_continues (token.Number n) h e = all_digits_continue (decimal n) (all_digits (decimal n) (decimal_is_IsNumeral n (omega arith)).0.1)
+spelling_continues (token.Word w) h e = word_like_continues (word_bytes w) (word_bytes_like w)
+spelling_continues (token.Mark m) h e = grind arith

@@ -9,7 +9,7 @@ mod reading;
 mod spelling;
 mod token;
 
-pub use laws::longest_token;
+pub use laws::{lexed_tokens, longest_token, spelled_tokens};
 pub use piece::{first_piece, is_name};
 pub use reading::tokens;
 pub use spelling::spell;

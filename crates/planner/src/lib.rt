@@ -14,8 +14,8 @@ pub use counting::{count, has_row};
 pub use counts::Counts;
 pub use job::{Job, Part};
 pub use laws::{
-    each_job_once, each_whole_job_once, jobs_handed_out, parts_of_a_job, rows_are_counted, rows_of_a_job,
-    whole_jobs_stay,
+    each_job_once, each_whole_job_once, jobs_handed_out, parts_of_a_job, rows_are_counted,
+    rows_of_a_job, whole_jobs_stay,
 };
 pub use plan::Plan;
 

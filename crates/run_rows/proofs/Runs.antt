@@ -16,7 +16,7 @@ use Rattle.planner.specs.declared.job.Job.{Job}
 use Rattle.planner.specs.declared.job.Part.{Part}
 use Rattle.run_rows.specs.Runs.{chunks_of, steps_in, records_in, chunk_of, counts_to, IsJobOf}
 use Rattle.run_rows.specs.Tables.{records_of, instance_of}
-use Rattle.run_rows.specs.Gathered.{steps_of, named_in, all_named}
+use Rattle.run_rows.specs.Gathered.{steps_of, by_chunk, named_in, all_named}
 use Rattle.run_rows.proofs.Lists.{range_add, map_map, map_same, joined_map, filtered}
 
 starts : {A : Type 0} (f : ℕ → A) (a b m : ℕ) → (m ≡ 0) ⊎ (a ≡ b) → map f (range_with_len a m) ≡ map f (range_with_len b m)
@@ -39,10 +39,6 @@ pub steps_joined : {A : Type 0} (f : ℕ → A) (n : ℕ) → flat_map (λ c. ma
 steps_joined f n =
     let many : min (1024 * chunks_of n) (n - 1024 * 0) ≡ n = omega arith in
     pieces f n 0 (chunks_of n) ∙ ap (λ m. map f (range_with_len 0 m)) many
-
--- the steps of each chunk that have a row
-abbrev pub by_chunk : Air → Img → ℕ → List (List StepRecord)
-by_chunk air image n = map (λ k. with_row air (records_in image n k)) (range_with_len 0 (chunks_of n))
 
 pub all_rows : (air : Air) (image : Img) (n : ℕ) → flat_map (λ xs. xs) (by_chunk air image n) ≡ records_of air image n
 all_rows air image n =

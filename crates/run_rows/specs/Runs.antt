@@ -1,5 +1,5 @@
 -- The first n steps of a run, cut into chunks and counted, and the jobs that they fill.
-use Rattle.std.specs.Prelude.{◌≡◌, ◌⊎◌, ℕ, ◌+◌, ◌-◌, ◌/◌, ◌<◌, List, map, min, All}
+use Rattle.std.specs.Prelude.{◌≡◌, ◌⊎◌, ℕ, ◌+◌, ◌-◌, ◌/◌, ◌%◌, ◌<◌, ◌≤◌, List, map, min, All}
 use Rattle.std.specs.List.{range_with_len}
 use Rattle.std.specs.Arc.{arc_value}
 use Rattle.std.specs.declared.sync.Arc.{Arc}
@@ -39,6 +39,10 @@ chunks_to image n = map (chunk_of image n) (range_with_len 0 (chunks_of n))
 abbrev pub counts_to : Img → ℕ → List Counts
 counts_to image n = map (λ k. counted (records_in image n k)) (range_with_len 0 (chunks_of n))
 
+-- m steps are those n, or more behind n that are whole chunks
+abbrev pub Later : ℕ → ℕ → Type 0
+Later n m = (n ≡ m) ⊎ ((n % STEPS_PER_CHUNK ≡ 0) × (n ≤ m))
+
 -- shared chunks as chunks
 abbrev pub values_of : List (Arc Piece Global) → List Piece
 values_of chunks = map (λ c. arc_value c) chunks
@@ -51,9 +55,13 @@ Halts image n = (public : Public) × RunsTo image n public
 abbrev pub IsDue : Img → ℕ → Air → ℕ → Type 0
 IsDue image n air i = (i < whole air (counts_to image n)) ⊎ (Halts image n × (i < job_count air (counts_to image n)))
 
+-- the chunks that a job's parts name
+abbrev pub named_by : Img → ℕ → Job → List Piece
+named_by image n job = map (λ (p : Part). chunk_of image n p.chunk) job.parts
+
 -- the job is one of the plan of the run, as far as its first n steps tell it, and the chunks are those that its parts name
 pub record IsJobOf (image : Img) (n : ℕ) (job : Job) (chunks : List Piece) : Type 0 where
   pub planned : job ≡ job_of job.air (counts_to image n) job.instance
   pub due : IsDue image n job.air job.instance
-  pub named : chunks ≡ map (λ (p : Part). chunk_of image n p.chunk) job.parts
+  pub named : chunks ≡ named_by image n job
   pub each : All (IsChunk image) chunks

@@ -2,5 +2,7 @@
 #![tactic(auto)]
 
 mod gathering;
+mod laws;
 
 pub use gathering::{FromStep, gather};
+pub use laws::{chunks_of_a_run, jobs_of_a_run, rows_of_a_run};

@@ -2,18 +2,17 @@
 use Rattle.std.proofs.Common.{◌≡◌, ◌+◌, ◌-◌, ◌*◌, ◌<◌, ◌≤◌, ◌^◌, ℕ, List, [], ◌++◌, replicate, min, refl, ap, sym, subst, ◌∙◌, inr, arith}
 use Rattle.std.proofs.lemmas.List.{append-nil}
 use Rattle.rv_model.specs.Image.{Img, initial_word}
-use Rattle.rv_model.specs.State.{State, Halt, Fault}
+use Rattle.rv_model.specs.State.{State, Halt, Fault, start}
 use Rattle.rv_model.specs.Cpu.{cpu_of, with_memory}
 use Rattle.rv_model.specs.Run.{state_at, step_at, IsHalt, public_of, RunsTo, MeetsLimit}
 use Rattle.rv_model.specs.declared.answer.RunFault.{RunFault}
 use Rattle.rv_model.specs.declared.answer.Public.{Public}
 use Rattle.rv_model.specs.declared.cpu.Cpu.{Cpu}
-use Rattle.rv_model.proofs.Ends.{state_first}
 use Rattle.min_trace.specs.Record.{olds_between}
 use Rattle.min_trace.specs.Chunk.{Piece, IsStep}
 use Rattle.rv_emu.specs.Emulator.{IsAfter, IsEmu}
 use Rattle.rv_emu.specs.Answered.{Place, IsLast, FaultsIn, IsUsedUp}
-use Rattle.rv_emu.proofs.Executes.{old_at_halt}
+use Rattle.rv_emu.proofs.Executes.{ExecutesAt, GoodAccess, old_at_halt}
 use Rattle.rv_emu.proofs.Onward.{olds_more}
 
 abbrev pub place : Img → ℕ → ℕ → Place
@@ -36,6 +35,10 @@ went_on image limit number steps more most first now then noted notes e leads fe
 abbrev zeros : ℕ → Cpu
 zeros pc = record { pc = pc; x = replicate 32 0 }
 
+state_first : (image : Img) → start image ≡ state_at image 0
+unfolding state_at
+state_first image = refl
+
 pub begins : (image : Img) (limit pc : ℕ) (word : ℕ → ℕ) (noted : List ℕ) → limit < 2 ^ 32 → pc ≡ image.entry → word ≡ initial_word image → noted ≡ [] → IsEmu image limit 0 0 (zeros pc) (with_memory (zeros pc) word) noted
 begins image limit pc word noted small entry memory none =
     let state : with_memory (zeros pc) word ≡ state_at image 0 = ap (λ n. with_memory (zeros n) word) entry ∙ ap (with_memory (zeros image.entry)) memory ∙ state_first image in
@@ -55,13 +58,13 @@ runs_to image l n public at some is meets told = record {
   told = rw at told;
 }
 
-pub last : (p : Place) (image : Img) (limit number steps : ℕ) (first : Cpu) (now : State) (noted : List ℕ) (public : Public) → place image limit number ≡ p → IsEmu image limit number steps first now noted → step_at image (1024 * number + steps) ≡ Halt
+pub last : ExecutesAt → GoodAccess → (p : Place) (image : Img) (limit number steps : ℕ) (first : Cpu) (now : State) (noted : List ℕ) (public : Public) → place image limit number ≡ p → IsEmu image limit number steps first now noted → step_at image (1024 * number + steps) ≡ Halt
     → steps < 1024 → 1024 * number + steps < limit → public ≡ public_of now → IsLast p (piece number first (steps + 1) noted) public
-last p image limit number steps first now noted public v e is few below told =
+last executes good p image limit number steps first now noted public v e is few below told =
     let at : 1024 * number + (steps + 1) - 1 ≡ 1024 * number + steps = omega arith in
     let halts : step_at image (1024 * number + (steps + 1) - 1) ≡ Halt = rw at is in
     let none : olds_between image (1024 * number) (steps + 1) ≡ noted =
-    olds_more image (1024 * number) steps ∙ ap (λ xs. olds_between image (1024 * number) steps ++ xs) (old_at_halt image (1024 * number + steps) is) ∙ append-nil (olds_between image (1024 * number) steps) ∙ sym e.after.olds in
+    olds_more image (1024 * number) steps ∙ ap (λ xs. olds_between image (1024 * number) steps ++ xs) (old_at_halt executes good image (1024 * number + steps) is) ∙ append-nil (olds_between image (1024 * number) steps) ∙ sym e.after.olds in
     subst (λ q. IsLast q (piece number first (steps + 1) noted) public) v (record {
       chunk = record {
         number = omega (arith, e.small);
@@ -117,9 +120,9 @@ limit_told p image limit number steps more most first now then noted notes f sto
     let e = further p image limit number steps more most first now then noted notes f in
     (ap (λ (q : Place). q.limit) f.view, used_up p image limit number more first then notes f.view e (omega (arith, stop, f.bound, f.before.within)) (omega (arith, stop)), f.view)
 
-pub last_told : (p : Place) (image : Img) (limit number steps more most : ℕ) (first : Cpu) (now then : State) (noted notes : List ℕ) (c : Piece) (public : Public) → Found p image limit number steps more most first now then noted notes
+pub last_told : ExecutesAt → GoodAccess → (p : Place) (image : Img) (limit number steps more most : ℕ) (first : Cpu) (now then : State) (noted notes : List ℕ) (c : Piece) (public : Public) → Found p image limit number steps more most first now then noted notes
     → ((from : ℕ) → IsAfter image from steps now noted → (step_at image (from + more) ≡ Halt) × (more < most)) → c ≡ piece number first (more + 1) notes → public ≡ public_of then → IsLast p c public × (place image limit number ≡ p)
-last_told p image limit number steps more most first now then noted notes c public f stopped is told =
+last_told executes good p image limit number steps more most first now then noted notes c public f stopped is told =
     let stop = stopped (1024 * number) f.before.after in
     let e = further p image limit number steps more most first now then noted notes f in
-    (subst (λ d. IsLast p d public) (sym is) (last p image limit number more first then notes public f.view e stop.0 (omega (arith, stop.1, f.bound)) (omega (arith, stop.1, f.bound)) told), f.view)
+    (subst (λ d. IsLast p d public) (sym is) (last executes good p image limit number more first then notes public f.view e stop.0 (omega (arith, stop.1, f.bound)) (omega (arith, stop.1, f.bound)) told), f.view)

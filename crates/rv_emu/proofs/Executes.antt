@@ -8,9 +8,10 @@ use Rattle.rv_word.specs.declared.instr.Instr.{Instr}
 use Rattle.rv_word.specs.declared.instr.Instr.TheVariants.{Lui, Auipc, Jal, Jalr, Branch, Load, Store, OpImm, Op, Fence, Ecall, Ebreak}
 use Rattle.rv_word.specs.Is.{decoded}
 use Rattle.rv_model.specs.Image.{Img, fetch}
+use Rattle.rv_model.specs.Code.{instr_of}
 use Rattle.rv_model.specs.Align.{width, aligned}
 use Rattle.rv_model.specs.State.{State, Answer, Next, Halt, Fault, executed, executed_fetch, step, load, store, at_address, with_word}
-use Rattle.rv_model.specs.Cpu.{with_memory, access, is_store, IsGood, memory_after, KeepsUnlessNext}
+use Rattle.rv_model.specs.Cpu.{with_memory, access, is_store, IsGood, Touches, told, memory_after, KeepsUnlessNext}
 use Rattle.rv_model.specs.Run.{state_at, step_at}
 use Rattle.rv_model.specs.declared.access.Access.{Access}
 use Rattle.rv_model.specs.declared.answer.RunFault.{RunFault}
@@ -18,11 +19,20 @@ use Rattle.rv_model.specs.declared.answer.RunFault.TheVariants.{BadPc, Illegal}
 use Rattle.rv_model.specs.declared.answer.StepAnswer.{StepAnswer}
 use Rattle.rv_model.specs.declared.answer.StepAnswer.TheVariants as answers
 use Rattle.rv_model.specs.declared.cpu.Cpu.{Cpu}
-use Rattle.min_trace.specs.Record.{instr_of, instr_at, act, old_of, old_at}
+use Rattle.min_trace.specs.Record.{instr_at, act, old_of, old_at}
 use Rattle.min_trace.specs.Chunk.{IsStep}
-use Rattle.min_trace.proofs.Completes.{executes_at}
-use Rattle.min_trace.proofs.Steps.{good_access, Applies}
 use Rattle.rv_emu.specs.Emulator.{old_by, old_here, Leads, IsTouch, IsTouched}
+
+-- what min_trace's laws say of what is executed
+abbrev pub ExecutesAt : Type 0
+ExecutesAt = (image : Img) (j : ℕ) → IsStep (step_at image j) → step_at image j ≡ executed (instr_at image j) (state_at image j)
+
+abbrev pub GoodAccess : Type 0
+GoodAccess = (i : Instr) (s : State) → IsStep (executed i s) → IfSome (access i s) IsGood
+
+-- what applying an instruction to pc and registers says of each memory
+abbrev pub Applies : Instr → ℕ → Cpu → StepAnswer → Cpu → Type 0
+Applies i old cpu answer after = (word : ℕ → ℕ) → Touches i (with_memory cpu word) old → executed i (with_memory cpu word) ≡ told answer after (memory_after i (with_memory cpu word))
 
 -- the memory after an access
 abbrev memory_by : Bool → Option Access → (ℕ → ℕ) → ℕ → ℕ
@@ -38,8 +48,8 @@ memory_is (Jalr rd rs1 imm) s = refl
 memory_is (Branch cond rs1 rs2 imm) s = refl
 memory_is (Load kind rd rs1 imm) s = refl
 memory_is (Store kind rs1 rs2 imm) s = refl
-memory_is (OpImm op rd rs1 imm) s = refl
-memory_is (Op op rd rs1 rs2) s = refl
+memory_is (OpImm op rd rs1 imm uw) s = refl
+memory_is (Op op rd rs1 rs2 uw) s = refl
 memory_is Fence s = refl
 memory_is Ecall s = refl
 memory_is Ebreak s = refl
@@ -63,8 +73,8 @@ good_leads (Auipc rd imm) s = tt
 good_leads (Jal rd imm) s = tt
 good_leads (Jalr rd rs1 imm) s = tt
 good_leads (Branch cond rs1 rs2 imm) s = tt
-good_leads (OpImm op rd rs1 imm) s = tt
-good_leads (Op op rd rs1 rs2) s = tt
+good_leads (OpImm op rd rs1 imm uw) s = tt
+good_leads (Op op rd rs1 rs2 uw) s = tt
 good_leads Fence s = tt
 good_leads Ecall s = tt
 good_leads Ebreak s = tt
@@ -89,14 +99,14 @@ is_good : (a : Option Access) (b : Access) → a ≡ Some b → IfSome a IsGood 
 is_good None b is good = cc
 is_good (Some a) b is good = let same : a ≡ b = cc in subst IsGood same good
 
-leads_bad : (i : Instr) (c d : Cpu) (word : ℕ → ℕ) (r : StepAnswer) (a : Access) (old : ℕ) (olds : List ℕ) → access i (with_memory c word) ≡ Some a → (IsGood a → ⊥) → Applies i old c r d → KeepsUnlessNext r c d
+leads_bad : GoodAccess → (i : Instr) (c d : Cpu) (word : ℕ → ℕ) (r : StepAnswer) (a : Access) (old : ℕ) (olds : List ℕ) → access i (with_memory c word) ≡ Some a → (IsGood a → ⊥) → Applies i old c r d → KeepsUnlessNext r c d
     → Leads (executed i (with_memory c word)) (old_by i (with_memory c word)) r (with_memory c word) (with_memory d word) olds olds
-leads_bad i c d word answers.Next a old olds is bad applies kept =
+leads_bad law i c d word answers.Next a old olds is bad applies kept =
     let s : State = with_memory c word in
     let on : executed i s ≡ Next (with_memory d (memory_after i s)) = applies word (rw is (λ good. absurd (bad good))) in
-    absurd (bad (is_good (access i s) a is (good_access i s (subst IsStep (sym on) tt))))
-leads_bad i c d word answers.Halt a old olds is bad applies kept = (applies word (rw is (λ good. absurd (bad good))), ap (λ e. with_memory e word) kept, refl)
-leads_bad i c d word (answers.Fault f) a old olds is bad applies kept = (applies word (rw is (λ good. absurd (bad good))), ap (λ e. with_memory e word) kept, refl)
+    absurd (bad (is_good (access i s) a is (law i s (subst IsStep (sym on) tt))))
+leads_bad law i c d word answers.Halt a old olds is bad applies kept = (applies word (rw is (λ good. absurd (bad good))), ap (λ e. with_memory e word) kept, refl)
+leads_bad law i c d word (answers.Fault f) a old olds is bad applies kept = (applies word (rw is (λ good. absurd (bad good))), ap (λ e. with_memory e word) kept, refl)
 
 -- an access at a good address
 fault_no_next : (answer : Answer) (f : RunFault) → answer ≡ Fault f → LeadsOn answer → ⊥
@@ -123,30 +133,30 @@ leads_at i c d word written (answers.Fault f) a old before after is t applies =
     absurd (fault_no_next _ f (applies word (rw is (λ good. sym t.here))) (leads_on i (with_memory c word) _ a is t.good (good_leads i (with_memory c word))))
 
 -- an instruction by what it touches
-leads_by : (i : Instr) (c d : Cpu) (word written : ℕ → ℕ) (r : StepAnswer) (o : Option Access) (old : ℕ) (before after : List ℕ) → access i (with_memory c word) ≡ o → IsTouched i (with_memory c word) o old written before after → Applies i old c r d → KeepsUnlessNext r c d
+leads_by : GoodAccess → (i : Instr) (c d : Cpu) (word written : ℕ → ℕ) (r : StepAnswer) (o : Option Access) (old : ℕ) (before after : List ℕ) → access i (with_memory c word) ≡ o → IsTouched i (with_memory c word) o old written before after → Applies i old c r d → KeepsUnlessNext r c d
     → Leads (executed i (with_memory c word)) (old_by i (with_memory c word)) r (with_memory c word) (with_memory d written) before after
-leads_by i c d word written r None old before after is t applies kept =
+leads_by law i c d word written r None old before after is t applies kept =
     subst (λ m. Leads (executed i (with_memory c word)) (old_by i (with_memory c word)) r (with_memory c word) (with_memory d m) before after) (sym t.0)
     (subst (λ xs. Leads (executed i (with_memory c word)) (old_by i (with_memory c word)) r (with_memory c word) (with_memory d word) before xs) (sym t.1) (leads_none i c d word r old before is applies kept))
-leads_by i c d word written r (Some a) old before after is t applies kept = elim t [
+leads_by law i c d word written r (Some a) old before after is t applies kept = elim t [
   | inl touch ↦ leads_at i c d word written r a old before after is touch applies
   | inr (bad, memory, noted) ↦
       subst (λ m. Leads (executed i (with_memory c word)) (old_by i (with_memory c word)) r (with_memory c word) (with_memory d m) before after) (sym memory)
-      (subst (λ xs. Leads (executed i (with_memory c word)) (old_by i (with_memory c word)) r (with_memory c word) (with_memory d word) before xs) (sym noted) (leads_bad i c d word r a old before is bad applies kept))
+      (subst (λ xs. Leads (executed i (with_memory c word)) (old_by i (with_memory c word)) r (with_memory c word) (with_memory d word) before xs) (sym noted) (leads_bad law i c d word r a old before is bad applies kept))
 ]
 
-pub leads_touched : (i : Instr) (c d : Cpu) (word written : ℕ → ℕ) (r : StepAnswer) (old : ℕ) (before after : List ℕ) → IsTouched i (with_memory c word) (access i (with_memory c word)) old written before after → Applies i old c r d → KeepsUnlessNext r c d
+pub leads_touched : GoodAccess → (i : Instr) (c d : Cpu) (word written : ℕ → ℕ) (r : StepAnswer) (old : ℕ) (before after : List ℕ) → IsTouched i (with_memory c word) (access i (with_memory c word)) old written before after → Applies i old c r d → KeepsUnlessNext r c d
     → Leads (executed i (with_memory c word)) (old_by i (with_memory c word)) r (with_memory c word) (with_memory d written) before after
-leads_touched i c d word written r old before after t applies kept = leads_by i c d word written r (access i (with_memory c word)) old before after refl t applies kept
+leads_touched law i c d word written r old before after t applies kept = leads_by law i c d word written r (access i (with_memory c word)) old before after refl t applies kept
 
 -- an instruction that halts makes no access
 no_access : (i : Instr) (s : State) (o : Option Access) → executed i s ≡ Halt → IfSome o IsGood → IfSome o (λ a. IsGood a → LeadsOn (executed i s)) → old_of (act o s.word) ≡ []
 no_access i s None halts good on = refl
 no_access i s (Some a) halts good on = absurd (halt_no_next _ halts (on good))
 
-pub old_at_halt : (image : Img) (j : ℕ) → step_at image j ≡ Halt → old_at image j ≡ []
+pub old_at_halt : ExecutesAt → GoodAccess → (image : Img) (j : ℕ) → step_at image j ≡ Halt → old_at image j ≡ []
 unfolding old_at
-old_at_halt image j is =
+old_at_halt executes_at good_access image j is =
     let i : Instr = instr_at image j in
     let s : State = state_at image j in
     let halts : executed i s ≡ Halt = sym (executes_at image j (subst IsStep (sym is) tt)) ∙ is in

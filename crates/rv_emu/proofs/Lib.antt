@@ -1,5 +1,5 @@
-pub mod Decoded
 pub mod Executes
 pub mod Onward
 pub mod Answers
 pub mod Once
+pub mod Windows

@@ -6,7 +6,8 @@ use Rattle.rv_model.specs.declared.answer.Public.{Public}
 use Rattle.rv_model.specs.declared.answer.RunFault.{RunFault}
 use Rattle.rv_model.specs.declared.answer.RunEnd.{RunEnd}
 use Rattle.rv_model.specs.declared.answer.RunEnd.TheVariants as ends
-use Rattle.min_trace.specs.Chunk.{Piece, IsChunk}
+use Rattle.min_trace.specs.declared.chunk.TheConstants.{STEPS_PER_CHUNK}
+use Rattle.min_trace.specs.Chunk.{Piece, IsChunk, first_step}
 use Rattle.rv_emu.specs.declared.emu.Step.{Step}
 use Rattle.rv_emu.specs.declared.emu.Step.TheVariants as steps
 
@@ -16,32 +17,32 @@ pub record Place : Type 0 where
   pub limit : ℕ
   pub number : ℕ
 
--- the chunk asked for, within the limit, all of whose 1,024 steps lead on
+-- the chunk asked for, within the limit, all of whose steps lead on
 pub record IsWhole (p : Place) (c : Piece) : Type 0 where
   pub chunk : IsChunk p.image c
   pub number : c.number ≡ p.number
-  pub steps : c.steps ≡ 1024
-  pub on : MeetsLimit p.image (1024 * p.number + 1024)
-  pub within : 1024 * p.number + 1024 ≤ p.limit
+  pub steps : c.steps ≡ STEPS_PER_CHUNK
+  pub on : MeetsLimit p.image (first_step (p.number + 1))
+  pub within : first_step (p.number + 1) ≤ p.limit
 
 -- the chunk asked for, within the limit, whose last step halts
 pub record IsLast (p : Place) (c : Piece) (public : Public) : Type 0 where
   pub chunk : IsChunk p.image c
   pub number : c.number ≡ p.number
-  pub halts : RunsTo p.image (1024 * p.number + c.steps) public
-  pub within : 1024 * p.number + c.steps ≤ p.limit
+  pub halts : RunsTo p.image (first_step p.number + c.steps) public
+  pub within : first_step p.number + c.steps ≤ p.limit
 
 -- the run faults at a step of the chunk asked for, below the limit
 pub record FaultsIn (p : Place) (fault : RunFault) : Type 0 where
   pub step : ℕ
-  pub low : 1024 * p.number ≤ step
-  pub high : step < 1024 * p.number + 1024
+  pub low : first_step p.number ≤ step
+  pub high : step < first_step (p.number + 1)
   pub within : step < p.limit
   pub faults : FaultsAt p.image step fault
 
 -- the step whose number is the limit lies in or before the chunk asked for, and all before it lead on
 pub record IsUsedUp (p : Place) : Type 0 where
-  pub high : p.limit < 1024 * p.number + 1024
+  pub high : p.limit < first_step (p.number + 1)
   pub on : MeetsLimit p.image p.limit
 
 -- an answer of the emulator, before and after; it goes on to the next chunk after a chunk that leads on
@@ -55,7 +56,7 @@ Answered (Err ends.NoMemory) old new = new ≡ old
 -- the run's end, where an answer tells it
 abbrev pub EndsBy : Result Step RunEnd → ℕ → End → Type 0
 EndsBy (Ok (steps.Chunk c)) limit end = Unit {0}
-EndsBy (Ok (steps.Last c public)) limit end = end ≡ Halted (1024 * c.number + c.steps) public
+EndsBy (Ok (steps.Last c public)) limit end = end ≡ Halted (first_step c.number + c.steps) public
 EndsBy (Err (ends.Fault fault)) limit end = end ≡ Faulted fault
 EndsBy (Err (ends.StepLimit most)) limit end = (most ≡ limit) × (end ≡ Limited)
 EndsBy (Err ends.NoMemory) limit end = Unit {0}

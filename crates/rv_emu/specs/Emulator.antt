@@ -3,6 +3,7 @@ use Rattle.std.specs.Prelude.{◌≡◌, ◌⊎◌, ℕ, ◌+◌, ◌*◌, ◌/�
 use Rattle.rv_word.specs.declared.instr.Instr.{Instr}
 use Rattle.rv_word.specs.declared.instr.Instr.TheVariants.{Fence}
 use Rattle.rv_model.specs.Image.{Img, fetch}
+use Rattle.rv_model.specs.Code.{instr_of}
 use Rattle.rv_model.specs.Align.{aligned}
 use Rattle.rv_model.specs.State.{State, Answer, Next, Halt, Fault, with_word}
 use Rattle.rv_model.specs.Cpu.{with_memory, access, is_store, IsGood}
@@ -12,7 +13,9 @@ use Rattle.rv_model.specs.declared.answer.StepAnswer.{StepAnswer}
 use Rattle.rv_model.specs.declared.answer.StepAnswer.TheVariants as answers
 use Rattle.rv_model.specs.declared.cpu.Cpu.{Cpu}
 use Rattle.mem_pages.specs.Memory.{Paged, word_of}
-use Rattle.min_trace.specs.Record.{instr_of, act, old_of, olds_between, cpu_at}
+use Rattle.min_trace.specs.declared.chunk.TheConstants.{STEPS_PER_CHUNK}
+use Rattle.min_trace.specs.Chunk.{first_step}
+use Rattle.min_trace.specs.Record.{act, old_of, olds_between, cpu_at}
 
 abbrev pub state_of : Cpu → Paged → State
 state_of cpu memory = with_memory cpu (word_of memory)
@@ -58,8 +61,8 @@ Stopped (answers.Fault f) image from steps most = (step_at image (from + steps) 
 
 -- an emulator within chunk number `number`, which began with pc and registers `first`
 pub record IsEmu (image : Img) (limit number steps : ℕ) (first : Cpu) (now : State) (noted : List ℕ) : Type 0 where
-  pub after : IsAfter image (1024 * number) steps now noted
-  pub begun : first ≡ cpu_at image (1024 * number)
-  pub most : steps ≤ 1024
-  pub within : 1024 * number + steps ≤ limit
+  pub after : IsAfter image (first_step number) steps now noted
+  pub begun : first ≡ cpu_at image (first_step number)
+  pub most : steps ≤ STEPS_PER_CHUNK
+  pub within : first_step number + steps ≤ limit
   pub small : limit < 2 ^ 32

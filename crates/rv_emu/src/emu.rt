@@ -4,11 +4,10 @@ ghost use Rattle.std.specs.Arc.{arc_value};
 ghost use Rattle.rv_model.specs.Run.{end_within};
 ghost use Rattle.rv_emu.specs.Answered.{Place, Answered, EndsBy};
 
-use crate::code::Code;
 use crate::stepping::go_on;
 use crate::window::public;
 use mem_pages::Memory;
-use min_trace::Chunk;
+use min_trace::{Chunk, STEPS_PER_CHUNK, execution_law};
 use rv_model::{Cpu, Image, Public, RunEnd, StepAnswer};
 use std::alloc::{AllocError, Global};
 use std::marker::Model;
@@ -17,7 +16,7 @@ use std::sync::Arc;
 /// A chunk of a run.
 #[derive(Debug, Drop)]
 pub enum Step {
-    /// Its 1,024 steps all lead on.
+    /// Its steps all lead on.
     Chunk(Chunk),
     /// Its last step halts, and this is what the run publishes.
     Last(Chunk, Public),
@@ -28,7 +27,7 @@ pub enum Step {
 pub struct Emu {
     alloc: Global,
     limit: u32,
-    code: Code,
+    image: Arc<Image>,
     // The chunk's number, pc and registers before it, and how many of its steps were done.
     number: u32,
     first: Cpu,
@@ -40,14 +39,15 @@ pub struct Emu {
 }
 
 impl Model for Emu {
+    ghost use Rattle.std.specs.Arc.{arc_value};
     ghost use Rattle.rv_emu.specs.Emulator.{IsEmu, state_of};
     ghost use Rattle.rv_emu.specs.Answered.{Place};
 
     ghost Value = { Place };
 
-    ghost view = { λ e. record { image = e.code; limit = e.limit; number = e.number } };
+    ghost view = { λ e. record { image = arc_value e.image; limit = e.limit; number = e.number } };
 
-    ghost invariant = { λ e. IsEmu e.code e.limit e.number e.steps e.first (state_of e.cpu e.memory) e.olds.items };
+    ghost invariant = { λ e. IsEmu (arc_value e.image) e.limit e.number e.steps e.first (state_of e.cpu e.memory) e.olds.items };
 }
 
 fn chunk_of(
@@ -72,9 +72,8 @@ impl Emu {
     pub fn new(alloc: Global, image: Arc<Image>, limit: u32) -> Result<Emu, AllocError>
         ensures { IfOk result (λ emu. emu ≡ record { image = arc_value image; limit = limit; number = 0 }) }
     {
-        let code = Code::new(alloc, &image)?;
         let memory = Memory::new(alloc, &image)?;
-        let olds = Vec::with_capacity(alloc, 1024)?;
+        let olds = Vec::with_capacity(alloc, STEPS_PER_CHUNK as usize)?;
         let cpu = Cpu {
             pc: image.entry,
             x: [0; 32],
@@ -82,7 +81,7 @@ impl Emu {
         Ok(Emu {
             alloc,
             limit,
-            code,
+            image,
             number: 0,
             first: cpu,
             steps: 0,
@@ -103,9 +102,10 @@ impl Emu {
         // Where the run ends, this is its end within the limit.
         ensures ends { EndsBy result self.old.limit (end_within self.old.image self.old.limit) }
     {
-        let most = (self.limit - 1024 * self.number).min(1024);
+        execution_law();
+        let most = (self.limit - STEPS_PER_CHUNK * self.number).min(STEPS_PER_CHUNK);
         let Ok(answer) = go_on(
-            &self.code,
+            &self.image,
             &mut self.cpu,
             &mut self.memory,
             &mut self.olds,
@@ -124,10 +124,15 @@ impl Emu {
                 };
                 Ok(Step::Last(chunk, public(&self.cpu, &self.memory)))
             }
-            StepAnswer::Next if most < 1024 => Err(RunEnd::StepLimit(self.limit)),
+            StepAnswer::Next if most < STEPS_PER_CHUNK => Err(RunEnd::StepLimit(self.limit)),
             StepAnswer::Next => {
-                let Ok(chunk) = chunk_of(self.alloc, self.number, &self.first, 1024, &self.olds)
-                else {
+                let Ok(chunk) = chunk_of(
+                    self.alloc,
+                    self.number,
+                    &self.first,
+                    STEPS_PER_CHUNK,
+                    &self.olds,
+                ) else {
                     return Err(RunEnd::NoMemory);
                 };
                 self.number += 1;

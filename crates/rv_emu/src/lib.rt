@@ -1,8 +1,7 @@
 //! The emulator: it runs an image and publishes the run chunk by chunk.
-//! The words of executable segments are decoded once; memory lies in pages; a step takes memory only for a page.
+//! Memory lies in pages, and a step takes memory only for a page.
 #![tactic(auto)]
 
-mod code;
 mod emu;
 mod laws;
 mod stepping;

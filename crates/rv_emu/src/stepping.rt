@@ -5,9 +5,9 @@ ghost use Rattle.rv_model.specs.Cpu.{access};
 ghost use Rattle.mem_pages.specs.Memory.{word_of};
 ghost use Rattle.rv_emu.specs.Emulator.{state_of, old_by, old_here, Leads, IsTouched, IsAfter, Stopped};
 
-use crate::code::Code;
 use mem_pages::Memory;
-use rv_model::{Cpu, RunFault, StepAnswer, is_store};
+use min_trace::execution_law;
+use rv_model::{Cpu, Image, RunFault, StepAnswer, is_store};
 use rv_word::{Instr, decode};
 use std::alloc::AllocError;
 
@@ -52,6 +52,7 @@ fn execute(
     ensures ok { IfOk result (λ answer. Leads (executed instr.now (state_of cpu.old memory.old)) (old_by instr.now (state_of cpu.old memory.old)) answer (state_of cpu.old memory.old) (state_of cpu.new memory.new) olds.old.items olds.new.items) }
     ensures err { OnErr result ((state_of cpu.new memory.new ≡ state_of cpu.old memory.old) × (olds.new.items ≡ olds.old.items)) }
 {
+    execution_law();
     let old = touch(instr, cpu, memory, olds)?;
     Ok(cpu.apply(instr, old))
 }
@@ -59,16 +60,16 @@ fn execute(
 // A step at a pc whose word was not decoded before.
 #[cold]
 fn fetch_and_execute(
-    code: &Code,
+    image: &Image,
     cpu: &mut Cpu,
     memory: &mut Memory,
     olds: &mut Vec<u64>,
 ) -> Result<StepAnswer, AllocError>
-    ensures ok { IfOk result (λ answer. Leads (step code.now (state_of cpu.old memory.old)) (old_here code.now (state_of cpu.old memory.old)) answer (state_of cpu.old memory.old) (state_of cpu.new memory.new) olds.old.items olds.new.items) }
+    ensures ok { IfOk result (λ answer. Leads (step image.now (state_of cpu.old memory.old)) (old_here image.now (state_of cpu.old memory.old)) answer (state_of cpu.old memory.old) (state_of cpu.new memory.new) olds.old.items olds.new.items) }
     ensures err { OnErr result ((state_of cpu.new memory.new ≡ state_of cpu.old memory.old) × (olds.new.items ≡ olds.old.items)) }
 {
     let pc = cpu.pc;
-    match code.fetch(pc) {
+    match image.fetch(pc) {
         None => Ok(StepAnswer::Fault(RunFault::BadPc(pc))),
         Some(word) => match decode(word) {
             None => Ok(StepAnswer::Fault(RunFault::Illegal(pc, word))),
@@ -79,17 +80,17 @@ fn fetch_and_execute(
 
 #[inline(always)]
 fn advance(
-    code: &Code,
+    image: &Image,
     cpu: &mut Cpu,
     memory: &mut Memory,
     olds: &mut Vec<u64>,
 ) -> Result<StepAnswer, AllocError>
-    ensures ok { IfOk result (λ answer. Leads (step code.now (state_of cpu.old memory.old)) (old_here code.now (state_of cpu.old memory.old)) answer (state_of cpu.old memory.old) (state_of cpu.new memory.new) olds.old.items olds.new.items) }
+    ensures ok { IfOk result (λ answer. Leads (step image.now (state_of cpu.old memory.old)) (old_here image.now (state_of cpu.old memory.old)) answer (state_of cpu.old memory.old) (state_of cpu.new memory.new) olds.old.items olds.new.items) }
     ensures err { OnErr result ((state_of cpu.new memory.new ≡ state_of cpu.old memory.old) × (olds.new.items ≡ olds.old.items)) }
 {
-    match code.instr(cpu.pc) {
+    match image.decoded(cpu.pc) {
         Some(instr) => execute(instr, cpu, memory, olds),
-        None => fetch_and_execute(code, cpu, memory, olds),
+        None => fetch_and_execute(image, cpu, memory, olds),
     }
 }
 
@@ -97,7 +98,7 @@ fn advance(
 /// is Next in the first case; in the other the machine stands before that step. Where memory is wanting it stands
 /// before the step that wants it.
 pub fn go_on(
-    code: &Code,
+    image: &Image,
     cpu: &mut Cpu,
     memory: &mut Memory,
     olds: &mut Vec<u64>,
@@ -105,12 +106,12 @@ pub fn go_on(
     most: u32,
 ) -> Result<StepAnswer, AllocError>
     requires { steps.old ≤ most }
-    ensures after { (from : ℕ) → IsAfter code.now from steps.old (state_of cpu.old memory.old) olds.old.items → IsAfter code.now from steps.new (state_of cpu.new memory.new) olds.new.items }
+    ensures after { (from : ℕ) → IsAfter image.now from steps.old (state_of cpu.old memory.old) olds.old.items → IsAfter image.now from steps.new (state_of cpu.new memory.new) olds.new.items }
     ensures few { steps.new ≤ most }
-    ensures stopped { IfOk result (λ answer. (from : ℕ) → IsAfter code.now from steps.old (state_of cpu.old memory.old) olds.old.items → Stopped answer code.now from steps.new most) }
+    ensures stopped { IfOk result (λ answer. (from : ℕ) → IsAfter image.now from steps.old (state_of cpu.old memory.old) olds.old.items → Stopped answer image.now from steps.new most) }
 {
     while *steps < most {
-        match advance(code, cpu, memory, olds) {
+        match advance(image, cpu, memory, olds) {
             Ok(StepAnswer::Next) => *steps += 1,
             answer => return answer,
         }

@@ -44,11 +44,8 @@ fn image_of(alloc: Global, words: &[u32]) -> Result<Option<Arc<Image>>, AllocErr
         exec: true,
         bytes,
     })?;
-    let image = Image {
-        entry: u64::from(START),
-        segments,
-        input: Vec::new(alloc),
-    };
+    let input = Vec::new(alloc);
+    let image = Image::new(alloc, u64::from(START), segments, input)?;
     Ok(Some(Arc::new(alloc, image)?))
 }
 
@@ -110,6 +107,23 @@ fn assert_ends(rt: &impl Abort, emu: &mut Emu, end: RunEnd) {
     for _ in 0..3 {
         assert!(rt; emu.next_chunk().err() == Some(end));
     }
+}
+
+// ADDI x10, x0, -1; ADD.UW x10, x10, x0; and the halt, with the low 32 bits of -1 as exit code.
+#[test]
+fn add_uw_run(rt: HostRuntime) -> Result<(), Fail> {
+    let mut words = [0xFFF0_0513, 0x0805_053B].to_vec(rt.alloc())?;
+    words.extend_from_slice(&HALT)?;
+    let image = image_of(rt.alloc(), &words)?.ok_or("no image")?;
+    let mut emu = Emu::new(rt.alloc(), image, 4)?;
+    match emu.next_chunk() {
+        Ok(Step::Last(chunk, public)) => {
+            assert_eq!(&rt; chunk.steps, 4);
+            assert_eq!(&rt; public.exit, 4_294_967_295);
+        }
+        _ => return Err("no halt".into()),
+    }
+    Ok(())
 }
 
 #[test]

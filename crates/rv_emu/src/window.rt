@@ -6,23 +6,23 @@ ghost use Rattle.mem_pages.specs.Memory.{word_of};
 ghost use Rattle.rv_emu.specs.Emulator.{state_of};
 
 use mem_pages::Memory;
-use rv_model::{Cpu, Public};
+use rv_model::{Cpu, EXIT_REGISTER, OUTPUT_INDEX, OUTPUT_LEN, OUTPUT_WORDS, Public};
 
 // Eight bytes of the output.
-fn set_bytes(output: &mut [u8; 256], at: usize, value: u64)
-    requires { at ≤ 248 }
+fn set_bytes(output: &mut [u8; OUTPUT_LEN], at: usize, value: u64)
+    requires { at + 8 ≤ OUTPUT_LEN }
     ensures bytes { output.new ≡ take at output.old ++ to_le_bytes w64 value ++ drop (at + 8) output.old }
-    ensures long { length output.new ≡ 256 }
+    ensures long { length output.new ≡ OUTPUT_LEN }
 {
     output[at..at + 8].copy_from_slice(&value.to_le_bytes());
 }
 
-fn output_window(memory: &Memory) -> [u8; 256]
-    ensures { result ≡ window (word_of memory.now) 32 }
+fn output_window(memory: &Memory) -> [u8; OUTPUT_LEN]
+    ensures { result ≡ window (word_of memory.now) OUTPUT_WORDS }
 {
-    let mut output = [0; 256];
-    for i in 0..32_u32 {
-        let value = memory.word(0x0A00_0000 + i);
+    let mut output = [0; OUTPUT_LEN];
+    for i in 0..OUTPUT_WORDS {
+        let value = memory.word(OUTPUT_INDEX + i);
         set_bytes(&mut output, 8 * i as usize, value);
     }
     output
@@ -33,7 +33,7 @@ pub fn public(cpu: &Cpu, memory: &Memory) -> Public
     ensures { result ≡ public_of (state_of cpu.now memory.now) }
 {
     Public {
-        exit: cpu.x[10],
+        exit: cpu.x[EXIT_REGISTER],
         output: output_window(memory),
     }
 }

@@ -1,5 +1,5 @@
 -- An instruction reads one doubleword at most, so that it can be done apart from the memory.
-use Rattle.std.proofs.Common.{◌≡◌, ◌==◌, ℕ, ◌/◌, ◌%◌, ◌^◌, ◌<◌, Bool, true, false, nat_lt, if◌then◌else◌, refl, ap, sym, ◌∙◌, arith}
+use Rattle.std.proofs.Common.{◌≡◌, ◌==◌, ℕ, ◌/◌, ◌%◌, ◌<◌, Bool, true, false, nat_lt, if◌then◌else◌, refl, ap, sym, ◌∙◌, arith}
 use Rattle.std.proofs.lemmas.Bool.Decides.{nat_tests}
 use Rattle.rv_word.specs.declared.instr.Kind.{Kind}
 use Rattle.rv_word.specs.declared.instr.Instr.{Instr}
@@ -7,12 +7,13 @@ use Rattle.rv_word.specs.declared.instr.Instr.TheVariants.{Lui, Auipc, Jal, Jalr
 use Rattle.rv_model.specs.Align.{width, aligned}
 use Rattle.rv_model.specs.State.{Answer, Next, Halt, Fault, executed, load, store, next_with_reg, with_word}
 use Rattle.rv_model.specs.Cpu.{with_memory, constant, forgot, told, Touches, memory_after}
+use Rattle.rv_model.specs.declared.machine.TheConstants.{MEMORY_END}
 use Rattle.rv_model.specs.declared.answer.StepAnswer.{StepAnswer}
 use Rattle.rv_model.specs.declared.answer.StepAnswer.TheVariants as answers
 use Rattle.rv_model.specs.declared.cpu.Cpu.{Cpu}
 
 -- the answer with this memory
-abbrev remembered : Answer → (ℕ → ℕ) → Answer
+abbrev pub remembered : Answer → (ℕ → ℕ) → Answer
 remembered (Next t) word = Next (record { pc = t.pc; x = t.x; word = word })
 remembered Halt word = Halt
 remembered (Fault f) word = Fault f
@@ -37,19 +38,19 @@ under_both true true p q r s h = h refl refl
 under_both true false p q r s h = refl
 under_both false d p q r s h = refl
 
-load_apart : (kind : Kind) (rd address old : ℕ) (c : Cpu) (word : ℕ → ℕ) → ((address % width kind ≡ 0) × (address < 2 ^ 32) → word (address / 8) ≡ old) → load (with_memory c word) kind rd address ≡ remembered (load (constant c old) kind rd address) word
+load_apart : (kind : Kind) (rd address old : ℕ) (c : Cpu) (word : ℕ → ℕ) → ((address % width kind ≡ 0) × (address < MEMORY_END) → word (address / 8) ≡ old) → load (with_memory c word) kind rd address ≡ remembered (load (constant c old) kind rd address) word
 unfolding load
 load_apart kind rd address old c word h =
-    simp remembered-if (under_both (address % width kind == 0) (nat_lt address (2 ^ 32)) _ _ _ _ λ p q.
+    simp remembered-if (under_both (address % width kind == 0) (nat_lt address MEMORY_END) _ _ _ _ λ p q.
     let multiple : address % width kind ≡ 0 = grind (arith, nat_tests) in
-    let below : address < 2 ^ 32 = grind (arith, nat_tests) in
+    let below : address < MEMORY_END = grind (arith, nat_tests) in
     ap (λ n. next_with_reg (with_memory c word) rd (aligned kind (address % 8) n 0)) (h (multiple, below)))
 
 store_apart : (kind : Kind) (address value old : ℕ) (c : Cpu) (word : ℕ → ℕ) → store (with_memory c word) kind address value ≡ remembered (store (constant c old) kind address value) (with_word word (address / 8) (aligned kind (address % 8) (word (address / 8)) value))
 unfolding store
 store_apart kind address value old c word = simp remembered-if
 
-executed_apart : (i : Instr) (c : Cpu) (old : ℕ) (word : ℕ → ℕ) → Touches i (with_memory c word) old → executed i (with_memory c word) ≡ remembered (executed i (constant c old)) (memory_after i (with_memory c word))
+pub executed_apart : (i : Instr) (c : Cpu) (old : ℕ) (word : ℕ → ℕ) → Touches i (with_memory c word) old → executed i (with_memory c word) ≡ remembered (executed i (constant c old)) (memory_after i (with_memory c word))
 executed_apart (Lui rd imm) c old word h = refl
 executed_apart (Auipc rd imm) c old word h = refl
 executed_apart (Jal rd imm) c old word h = simp remembered-if

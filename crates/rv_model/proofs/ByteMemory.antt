@@ -81,7 +81,7 @@ writes word n address value new fits is a = elim (cases_eq (address / 8) (a / 8)
 ]
 
 -- a part of a doubleword by its bytes
-part_1 : (old off : ℕ) → off < 8 → part 1 off old ≡ get_or (bytes old) off 0
+pub part_1 : (old off : ℕ) → off < 8 → part 1 off old ≡ get_or (bytes old) off 0
 part_1 old zero below = omega arith
 part_1 old (suc zero) below = omega arith
 part_1 old (suc (suc zero)) below = omega arith
@@ -105,13 +105,13 @@ part_4 old (suc zero) below = omega arith
 part_4 old (suc (suc k)) below = absurd (omega arith)
 
 -- the bytes after the address, as long as they lie in its doubleword
-byte_next : (word : ℕ → ℕ) (a k : ℕ) → a % 8 + k < 8 → get_or (bytes (word (a / 8))) (a % 8 + k) 0 ≡ byte_at word (a + k)
+pub byte_next : (word : ℕ → ℕ) (a k : ℕ) → a % 8 + k < 8 → get_or (bytes (word (a / 8))) (a % 8 + k) 0 ≡ byte_at word (a + k)
 byte_next word a k fits =
     let index : (a + k) / 8 ≡ a / 8 = omega arith in
     let place : (a + k) % 8 ≡ a % 8 + k = omega arith in
     sym (rw (index, place) refl)
 
-half_is : (word : ℕ → ℕ) (a : ℕ) → a % 2 ≡ 0 → part 2 (a % 8) (word (a / 8)) ≡ half_at word a
+pub half_is : (word : ℕ → ℕ) (a : ℕ) → a % 2 ≡ 0 → part 2 (a % 8) (word (a / 8)) ≡ half_at word a
 half_is word a multiple =
     let xs : List ℕ = bytes (word (a / 8)) in
     let place : 2 * (a % 8 / 2) ≡ a % 8 = omega arith in
@@ -119,7 +119,7 @@ half_is word a multiple =
     subst (λ o. part 2 o (word (a / 8)) ≡ get_or xs o 0 + get_or xs (o + 1) 0 * 256) place (part_2 (word (a / 8)) (a % 8 / 2) (omega arith)) in
     known ∙ ap (λ b. get_or xs (a % 8) 0 + b * 256) (byte_next word a 1 (omega arith))
 
-word_is : (word : ℕ → ℕ) (a : ℕ) → a % 4 ≡ 0 → part 4 (a % 8) (word (a / 8)) ≡ word_at word a
+pub word_is : (word : ℕ → ℕ) (a : ℕ) → a % 4 ≡ 0 → part 4 (a % 8) (word (a / 8)) ≡ word_at word a
 word_is word a multiple =
     let xs : List ℕ = bytes (word (a / 8)) in
     let place : 4 * (a % 8 / 4) ≡ a % 8 = omega arith in

@@ -4,3 +4,5 @@ pub mod Windows
 pub mod Ends
 pub mod Steps
 pub mod ByteMemory
+pub mod Decoded
+pub mod ByteSteps

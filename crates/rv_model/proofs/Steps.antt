@@ -1,5 +1,5 @@
 -- One step of the plain machine, over what it keeps.
-use Rattle.std.proofs.Common.{◌≡◌, ◌==◌, ℕ, ◌+◌, ◌/◌, ◌%◌, ◌^◌, ◌<◌, Bool, true, false, nat_lt, if◌then◌else◌, List, Some, None, inl, inr, ◌⊎◌, refl, ap, sym, subst, ◌∙◌}
+use Rattle.std.proofs.Common.{◌≡◌, ◌==◌, ℕ, ◌+◌, ◌/◌, ◌%◌, ◌<◌, Bool, true, false, nat_lt, if◌then◌else◌, List, Some, None, inl, inr, ◌⊎◌, refl, ap, sym, subst, ◌∙◌}
 use Rattle.std.proofs.Math.Path.{fun_ext}
 use Rattle.std.proofs.lemmas.Bool.{eqb-true, eq-eqb, ltb-true, lt-ltb}
 use Rattle.rv_word.specs.declared.instr.Kind.{Kind}
@@ -13,6 +13,7 @@ use Rattle.rv_model.specs.Cpu.{with_memory, told, access, is_store, IsGood, Touc
 use Rattle.rv_model.specs.Plain.{Plain, word_of, state_of, Leads}
 use Rattle.rv_model.specs.declared.access.Access.{Access}
 use Rattle.rv_model.specs.declared.answer.RunFault.{RunFault}
+use Rattle.rv_model.specs.declared.machine.TheConstants.{MEMORY_END}
 use Rattle.rv_model.specs.declared.answer.StepAnswer.{StepAnswer}
 use Rattle.rv_model.specs.declared.answer.StepAnswer.TheVariants as answers
 use Rattle.rv_model.specs.declared.cpu.Cpu.{Cpu}
@@ -58,15 +59,15 @@ guards_fault false d answer f g not_both = (g, refl)
 guards_pass : (b d : Bool) (answer p q : Answer) → b ≡ true → d ≡ true → (if b then (if d then answer else p) else q) ≡ answer
 guards_pass b d answer p q first second = rw (first, second) refl
 
-store_faults : (s : State) (kind : Kind) (address value : ℕ) → ((address % width kind ≡ 0) × (address < 2 ^ 32) → ⊥) → (f : RunFault) × (store s kind address value ≡ Fault f)
+store_faults : (s : State) (kind : Kind) (address value : ℕ) → ((address % width kind ≡ 0) × (address < MEMORY_END) → ⊥) → (f : RunFault) × (store s kind address value ≡ Fault f)
 unfolding store
 store_faults s kind address value bad =
-    guards_fault (address % width kind == 0) (nat_lt address (2 ^ 32)) _ _ _ (λ p q. bad (eqb-true _ _ p, ltb-true _ _ q))
+    guards_fault (address % width kind == 0) (nat_lt address MEMORY_END) _ _ _ (λ p q. bad (eqb-true _ _ p, ltb-true _ _ q))
 
-store_leads_on : (s : State) (kind : Kind) (address value : ℕ) → (address % width kind ≡ 0) × (address < 2 ^ 32) → store s kind address value ≡ next_with_store s kind address value
+store_leads_on : (s : State) (kind : Kind) (address value : ℕ) → (address % width kind ≡ 0) × (address < MEMORY_END) → store s kind address value ≡ next_with_store s kind address value
 unfolding store
 store_leads_on s kind address value good =
-    guards_pass (address % width kind == 0) (nat_lt address (2 ^ 32)) _ _ _ (eq-eqb _ _ good.0) (lt-ltb _ _ good.1)
+    guards_pass (address % width kind == 0) (nat_lt address MEMORY_END) _ _ _ (eq-eqb _ _ good.0) (lt-ltb _ _ good.1)
 
 -- what an access at a bad address leaves: the memory, or a fault
 abbrev KeepsOrFaults : Instr → State → Type 0

@@ -1,10 +1,11 @@
 -- pc and registers apart from the memory, and the one doubleword that an instruction touches.
-use Rattle.std.specs.Prelude.{◌≡◌, ℕ, ◌+◌, ◌/◌, ◌%◌, ◌^◌, ◌<◌, Bool, true, false, Option, Some, None, IfSome}
+use Rattle.std.specs.Prelude.{◌≡◌, ℕ, ◌+◌, ◌/◌, ◌%◌, ◌<◌, Bool, true, false, Option, Some, None, IfSome}
 use Rattle.rv_word.specs.declared.instr.Instr.{Instr}
 use Rattle.rv_word.specs.declared.instr.Instr.TheVariants.{Load, Store}
 use Rattle.rv_model.specs.Op.{bits_of}
 use Rattle.rv_model.specs.Align.{width, aligned}
 use Rattle.rv_model.specs.State.{State, Answer, Next, Halt, Fault, wrapped, reg, with_word}
+use Rattle.rv_model.specs.declared.machine.TheConstants.{MEMORY_END}
 use Rattle.rv_model.specs.declared.access.Access.{Access}
 use Rattle.rv_model.specs.declared.answer.StepAnswer.{StepAnswer}
 use Rattle.rv_model.specs.declared.answer.StepAnswer.TheVariants as answers
@@ -27,9 +28,9 @@ abbrev pub is_store : Instr → Bool
 is_store (Store kind rs1 rs2 imm) = true
 is_store _ = false
 
--- the address is a multiple of the width and below 2^32
+-- the address is a multiple of the width and in memory
 abbrev pub IsGood : Access → Type 0
-IsGood a = (a.address % width a.kind ≡ 0) × (a.address < 2 ^ 32)
+IsGood a = (a.address % width a.kind ≡ 0) × (a.address < MEMORY_END)
 
 -- old is the doubleword that the instruction touches, if it touches one
 abbrev pub Touches : Instr → State → ℕ → Type 0

@@ -2,6 +2,7 @@
 use Rattle.std.specs.Prelude.{◌==◌, ◌&&◌, ◌⊎◌, ℕ, ◌+◌, ◌-◌, ◌*◌, ◌/◌, ◌%◌, ◌^◌, ◌<◌, ◌≤◌, Bool, nat_lt, nat_le, List, [], ◌∷◌, length, slice_index, All, AllPairs, find, sum_by, Option, Some, None, IsSome, if◌then◌else◌}
 use Rattle.std.specs.Option.{option_map, option_map_or}
 use Rattle.std.specs.Int.{from_le_bytes, w32, w64}
+use Rattle.rv_model.specs.declared.machine.TheConstants.{MEMORY_END, INPUT_START, INPUT_LEN, INPUT_END, OUTPUT_START, OUTPUT_END, MOST_LOADED}
 
 -- an area of memory; past the bytes given it is zero (System V gABI, "Program Header")
 pub record Seg : Type 0 where
@@ -15,19 +16,6 @@ pub record Img : Type 0 where
   pub entry : ℕ
   pub segments : List Seg
   pub input : List ℕ
-
--- the input window and the output window: from the first address up to the second
-abbrev pub input_start : ℕ
-input_start = 0x4000_0000
-
-abbrev pub input_end : ℕ
-input_end = 0x4100_0000
-
-abbrev pub output_start : ℕ
-output_start = 0x5000_0000
-
-abbrev pub output_end : ℕ
-output_end = 0x5000_0100
 
 -- the n bytes from the address on lie in the segment
 abbrev pub covers : Seg → ℕ → ℕ → Bool
@@ -64,7 +52,7 @@ window_byte input at = if nat_lt at 8 then length input / 256 ^ at % 256 else sl
 -- the byte at the address when the run starts
 unfoldable pub initial_byte : Img → ℕ → ℕ
 initial_byte i a =
-    if nat_le input_start a && nat_lt a input_end then window_byte i.input (a - input_start)
+    if nat_le INPUT_START a && nat_lt a INPUT_END then window_byte i.input (a - INPUT_START)
     else segment_byte i.segments a
 
 -- the doubleword with this number when the run starts: the bytes from 8 * k on, the lowest first
@@ -81,13 +69,13 @@ kept_if p (Some s) = if p s then Some s else None
 abbrev pub IsOff : ℕ → ℕ → Seg → Type 0
 IsOff low high s = (s.start + s.len ≤ low) ⊎ (high ≤ s.start)
 
--- a segment lies below 2^32 and off both windows, and its bytes lie in it
+-- a segment lies in memory and off both windows, and its bytes lie in it
 pub record IsSegment (s : Seg) : Type 0 where
   pub some : 0 < s.len
-  pub below : s.start + s.len ≤ 2 ^ 32
+  pub below : s.start + s.len ≤ MEMORY_END
   pub bytes_fit : length s.bytes ≤ s.len
-  pub off_input : IsOff input_start input_end s
-  pub off_output : IsOff output_start output_end s
+  pub off_input : IsOff INPUT_START INPUT_END s
+  pub off_output : IsOff OUTPUT_START OUTPUT_END s
 
 -- the first segment ends at or before the start of the second
 abbrev pub EndsBefore : Seg → Seg → Type 0
@@ -97,6 +85,6 @@ EndsBefore s t = s.start + s.len ≤ t.start
 pub record IsLoadable (i : Img) : Type 0 where
   pub segments : All IsSegment i.segments
   pub ascending : AllPairs EndsBefore i.segments
-  pub loaded : sum_by (λ s. length s.bytes) i.segments ≤ 2 ^ 24
-  pub input : length i.input + 8 ≤ 2 ^ 24
+  pub loaded : sum_by (λ s. length s.bytes) i.segments ≤ MOST_LOADED
+  pub input : length i.input + 8 ≤ INPUT_LEN
   pub entry : IsSome (fetch i i.entry)

@@ -1,4 +1,5 @@
 pub mod Image
+pub mod Code
 pub mod Op
 pub mod Align
 pub mod Bytes
@@ -6,3 +7,4 @@ pub mod State
 pub mod Cpu
 pub mod Run
 pub mod Plain
+pub mod ByteMachine

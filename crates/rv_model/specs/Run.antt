@@ -4,6 +4,7 @@ use Rattle.std.specs.List.{flat_map, range_with_len}
 use Rattle.std.specs.Int.{to_le_bytes, w64}
 use Rattle.rv_model.specs.Image.{Img}
 use Rattle.rv_model.specs.State.{State, Answer, Next, Halt, Fault, step, start, reg}
+use Rattle.rv_model.specs.declared.machine.TheConstants.{OUTPUT_INDEX, OUTPUT_WORDS, EXIT_REGISTER}
 use Rattle.rv_model.specs.declared.answer.RunFault.{RunFault}
 use Rattle.rv_model.specs.declared.answer.Public.{Public}
 use Rattle.rv_model.specs.declared.answer.RunEnd.{RunEnd}
@@ -37,11 +38,11 @@ IsHalt (Fault f) = ⊥
 
 -- the bytes of the first n doublewords of the output window
 unfoldable pub window : (ℕ → ℕ) → ℕ → List ℕ
-window word n = flat_map (λ k. to_le_bytes w64 (word k)) (range_with_len 0x0A00_0000 n)
+window word n = flat_map (λ k. to_le_bytes w64 (word k)) (range_with_len OUTPUT_INDEX n)
 
 -- x10 and the output window
 abbrev pub public_of : State → Public
-public_of s = record { exit = reg s 10; output = window s.word 32 }
+public_of s = record { exit = reg s EXIT_REGISTER; output = window s.word OUTPUT_WORDS }
 
 -- the run halts with its n-th step
 pub record RunsTo (image : Img) (n : ℕ) (public : Public) : Type 0 where

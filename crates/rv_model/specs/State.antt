@@ -10,6 +10,7 @@ use Rattle.rv_word.specs.Is.{decoded}
 use Rattle.rv_model.specs.Image.{Img, fetch, initial_word}
 use Rattle.rv_model.specs.Op.{value_of, signed, bits_of}
 use Rattle.rv_model.specs.Align.{width, aligned}
+use Rattle.rv_model.specs.declared.machine.TheConstants.{MEMORY_END, CALL_REGISTER, EXIT_CALL}
 use Rattle.rv_model.specs.declared.answer.RunFault.{RunFault}
 use Rattle.rv_model.specs.declared.answer.RunFault.TheVariants.{BadPc, Illegal, Break, BadCall, Misaligned, BadAddress, BadTarget}
 
@@ -75,11 +76,11 @@ is_taken conds.Ge a b = not (int_lt (signed a) (signed b))
 is_taken conds.Ltu a b = nat_lt a b
 is_taken conds.Geu a b = not (nat_lt a b)
 
--- an answer where the address is a multiple of the width and below 2^32, else the fault
+-- an answer where the address is a multiple of the width and in memory, else the fault
 abbrev pub at_address : State → Kind → ℕ → Answer → Answer
 at_address s kind address answer =
     if address % width kind == 0 then
-    (if nat_lt address (2 ^ 32) then answer else Fault (BadAddress s.pc address))
+    (if nat_lt address MEMORY_END then answer else Fault (BadAddress s.pc address))
     else Fault (Misaligned s.pc address)
 
 unfoldable pub load : State → Kind → ℕ → ℕ → Answer
@@ -100,7 +101,7 @@ executed (Store kind rs1 rs2 imm) s = store s kind (wrapped (reg s rs1 + bits_of
 executed (OpImm op rd rs1 imm uw) s = next_with_reg s rd (value_of op (operand uw (reg s rs1)) (bits_of imm))
 executed (Op op rd rs1 rs2 uw) s = next_with_reg s rd (value_of op (operand uw (reg s rs1)) (reg s rs2))
 executed Fence s = next s
-executed Ecall s = if reg s 17 == 93 then Halt else Fault (BadCall s.pc (reg s 17))
+executed Ecall s = if reg s CALL_REGISTER == EXIT_CALL then Halt else Fault (BadCall s.pc (reg s CALL_REGISTER))
 executed Ebreak s = Fault (Break s.pc)
 
 abbrev pub executed_word : Option Instr → ℕ → State → Answer

@@ -4,7 +4,7 @@ ghost use Rattle.rv_model.specs.Align.{width, aligned};
 ghost use Rattle.rv_model.specs.Bytes.{ActsOnBytes};
 ghost use Rattle.rv_model.specs.Cpu.{IsGood};
 
-use crate::{align, width_of};
+use crate::{MEMORY_END, MEMORY_WORDS, align, width_of};
 use rv_word::Kind;
 
 /// What a load or a store does to memory: its kind, its byte address, and the value that a store puts.
@@ -17,12 +17,12 @@ pub struct Access {
 }
 
 impl Access {
-    /// Whether the address is a multiple of the kind's width and below 2^32.
+    /// Whether the address is a multiple of the kind's width and in memory.
     #[inline(always)]
     pub fn is_good(&self) -> bool
         ensures { IsTrue result ↔ IsGood self.now }
     {
-        self.address.is_multiple_of(width_of(self.kind)) && self.address < 1 << 32
+        self.address.is_multiple_of(width_of(self.kind)) && self.address < MEMORY_END
     }
 
     /// The number of the doubleword that it touches.
@@ -30,7 +30,7 @@ impl Access {
     pub fn index(&self) -> u32
         requires { IsGood self.now }
         ensures index { result ≡ self.now.address / 8 }
-        ensures below { result < 2 ^ 29 }
+        ensures below { result < MEMORY_WORDS }
     {
         (self.address / 8) as u32
     }

@@ -1,4 +1,5 @@
 //! How a step and a run end.
+use crate::OUTPUT_LEN;
 
 /// Why a step can't be done. The first number is pc.
 #[derive(Clone, Copy, Debug, PartialEq, Eq)]
@@ -9,11 +10,11 @@ pub enum RunFault {
     Illegal(u64, u32),
     /// The word is EBREAK.
     Break(u64),
-    /// The word is ECALL and x17, given second, is not 93.
+    /// The word is ECALL and the call's number in x17, given second, is not EXIT_CALL.
     BadCall(u64, u64),
     /// The address of a load or a store, given second, is no multiple of its width.
     Misaligned(u64, u64),
-    /// The address of a load or a store, given second, is at least 2^32.
+    /// The address of a load or a store, given second, is past the end of memory.
     BadAddress(u64, u64),
     /// The target of a jump or a taken branch, given second, is no multiple of 4.
     BadTarget(u64, u64),
@@ -24,17 +25,17 @@ pub enum RunFault {
 pub enum StepAnswer {
     /// The machine is in the next state.
     Next,
-    /// ECALL with 93 in x17; nothing has changed.
+    /// ECALL with EXIT_CALL in x17; nothing has changed.
     Halt,
     /// Nothing has changed.
     Fault(RunFault),
 }
 
-/// What a run publishes: x10, and the 256 bytes of the output window at 0x5000_0000, both at the halt.
+/// What a run publishes: x10, and the bytes of the output window, both at the halt.
 #[derive(Clone, Copy, Debug, PartialEq, Eq)]
 pub struct Public {
     pub exit: u64,
-    pub output: [u8; 256],
+    pub output: [u8; OUTPUT_LEN],
 }
 
 /// A run that halted: its number of steps, the halting one with them, and what it published.

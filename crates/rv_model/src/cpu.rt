@@ -3,7 +3,9 @@ ghost use Rattle.std.specs.Prelude.{◌≡◌, ◌+◌, ◌*◌, ◌/◌, ◌%�
 ghost use Rattle.rv_model.specs.State.{with_reg, operand, is_taken, wrapped, next, next_with_reg, load, store, jump, executed};
 ghost use Rattle.rv_model.specs.Cpu.{with_memory, access, is_store, Touches, memory_after, told, KeepsUnlessNext, constant, forgot};
 
-use crate::{Access, RunFault, StepAnswer, align, op, width_of};
+use crate::{
+    Access, CALL_REGISTER, EXIT_CALL, MEMORY_END, RunFault, StepAnswer, align, op, width_of,
+};
 use rv_word::{Cond, Instr, Kind, Reg};
 
 /// pc and the 32 registers. No instruction writes x0, which is 0 at the start.
@@ -118,7 +120,7 @@ impl Cpu {
         if address % width_of(kind) != 0 {
             return StepAnswer::Fault(RunFault::Misaligned(self.pc, address));
         }
-        if address >= 1 << 32 {
+        if address >= MEMORY_END {
             return StepAnswer::Fault(RunFault::BadAddress(self.pc, address));
         }
         let value = align(kind, (address % 8) as u8, old, 0);
@@ -134,7 +136,7 @@ impl Cpu {
         if address % width_of(kind) != 0 {
             return StepAnswer::Fault(RunFault::Misaligned(self.pc, address));
         }
-        if address >= 1 << 32 {
+        if address >= MEMORY_END {
             return StepAnswer::Fault(RunFault::BadAddress(self.pc, address));
         }
         self.pass()
@@ -235,10 +237,10 @@ impl Cpu {
             }
             Instr::Fence => self.pass(),
             Instr::Ecall => {
-                if self.x[17] == 93 {
+                if self.x[CALL_REGISTER] == EXIT_CALL {
                     StepAnswer::Halt
                 } else {
-                    StepAnswer::Fault(RunFault::BadCall(self.pc, self.x[17]))
+                    StepAnswer::Fault(RunFault::BadCall(self.pc, self.x[CALL_REGISTER]))
                 }
             }
             Instr::Ebreak => StepAnswer::Fault(RunFault::Break(self.pc)),

@@ -3,7 +3,7 @@ ghost use Rattle.std.specs.Prelude.{◌≡◌, ℕ, ◌+◌, ◌*◌, ◌<◌, �
 ghost use Rattle.std.specs.Option.{option_copied};
 ghost use Rattle.rv_model.specs.Image.{covers, runs_at, has, kept_if, byte_in, word_in, fetch, window_byte, initial_byte, initial_word};
 
-use crate::{Image, Segment};
+use crate::{INPUT_END, INPUT_START, Image, MEMORY_WORDS, Segment};
 
 impl Segment {
     fn starts_by(&self, address: u64) -> bool
@@ -96,8 +96,8 @@ impl Image {
     fn byte(&self, address: u64) -> u8
         ensures { result ≡ initial_byte self.now address }
     {
-        if 0x4000_0000 <= address && address < 0x4100_0000 {
-            return input_byte(&self.input, (address - 0x4000_0000) as usize);
+        if INPUT_START <= address && address < INPUT_END {
+            return input_byte(&self.input, (address - INPUT_START) as usize);
         }
         match self.last_from(address) {
             Some(s) if s.covers(address, 1) => s.byte(address),
@@ -105,10 +105,10 @@ impl Image {
         }
     }
 
-    /// The doubleword with this number, below 2^29, when the run starts: the eight bytes from 8 * index on.
+    /// The doubleword with this number when the run starts: the eight bytes from 8 * index on.
     #[tactic(auto, unfolding(crate::specs::Image::initial_word))]
     pub fn word(&self, index: u32) -> u64
-        requires { index < 2 ^ 29 }
+        requires { index < MEMORY_WORDS }
         ensures { result ≡ initial_word self.now index }
     {
         let at = 8 * u64::from(index);

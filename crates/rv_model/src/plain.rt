@@ -8,7 +8,10 @@ ghost use Rattle.rv_model.specs.Cpu.{access, IsGood};
 ghost use Rattle.rv_model.specs.Plain.{word_of, state_of, Leads, IsNew, TouchesNew, NextTouchesNew};
 ghost use Rattle.rv_model.specs.Run.{public_of, window};
 
-use crate::{Access, Cpu, Image, Public, RunFault, StepAnswer, is_store};
+use crate::{
+    Access, Cpu, EXIT_REGISTER, Image, MEMORY_WORDS, OUTPUT_INDEX, OUTPUT_LEN, OUTPUT_WORDS,
+    Public, RunFault, StepAnswer, is_store,
+};
 use rv_word::{Instr, decode};
 use std::alloc::{AllocError, Global};
 use std::collections::BTreeMap;
@@ -32,7 +35,7 @@ impl<'a> Model for PlainCpu<'a> {
 
 // The doubleword that was written, or the image's.
 fn word(image: &Image, words: &BTreeMap<u32, u64>, index: u32) -> u64
-    requires { index < 2 ^ 29 }
+    requires { index < MEMORY_WORDS }
     ensures { result ≡ word_of image.now words.now.entries index }
 {
     match words.get(&index) {
@@ -51,20 +54,20 @@ fn set_word(words: &mut BTreeMap<u32, u64>, index: u32, value: u64) -> Result<()
 }
 
 // Eight bytes of the output.
-fn set_bytes(output: &mut [u8; 256], at: usize, value: u64)
-    requires { at ≤ 248 }
+fn set_bytes(output: &mut [u8; OUTPUT_LEN], at: usize, value: u64)
+    requires { at + 8 ≤ OUTPUT_LEN }
     ensures bytes { output.new ≡ take at output.old ++ to_le_bytes w64 value ++ drop (at + 8) output.old }
-    ensures long { length output.new ≡ 256 }
+    ensures long { length output.new ≡ OUTPUT_LEN }
 {
     output[at..at + 8].copy_from_slice(&value.to_le_bytes());
 }
 
-fn output_window(image: &Image, words: &BTreeMap<u32, u64>) -> [u8; 256]
-    ensures { result ≡ window (word_of image.now words.now.entries) 32 }
+fn output_window(image: &Image, words: &BTreeMap<u32, u64>) -> [u8; OUTPUT_LEN]
+    ensures { result ≡ window (word_of image.now words.now.entries) OUTPUT_WORDS }
 {
-    let mut output = [0; 256];
-    for i in 0..32_u32 {
-        let value = word(image, words, 0x0A00_0000 + i);
+    let mut output = [0; OUTPUT_LEN];
+    for i in 0..OUTPUT_WORDS {
+        let value = word(image, words, OUTPUT_INDEX + i);
         set_bytes(&mut output, 8 * i as usize, value);
     }
     output
@@ -98,7 +101,7 @@ impl<'a> PlainCpu<'a> {
         ensures { result ≡ public_of (state_of self.now) }
     {
         Public {
-            exit: self.cpu.x[10],
+            exit: self.cpu.x[EXIT_REGISTER],
             output: output_window(self.image, &self.words),
         }
     }

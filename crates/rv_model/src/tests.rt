@@ -1,8 +1,10 @@
 //! Operations at their edges, and small programs whose ends are known.
 ghost use Rattle.std.specs.Prelude.{◌≡◌, ◌%◌, ◌≤◌};
 
-use crate::{Image, PlainCpu, Ran, RunEnd, RunFault, Segment, StepAnswer, align, op, run};
-use rv_word::{Kind, OpNo};
+use crate::{
+    Image, PlainCpu, Ran, RunEnd, RunFault, Segment, StepAnswer, align, byte_machine, op, run,
+};
+use rv_word::{Instr, Kind, OpNo};
 use std::alloc::{AllocError, Global};
 use std::process::Abort;
 use std::test::Fail;
@@ -32,11 +34,8 @@ fn tiny(alloc: Global, start: u32, words: &[u32]) -> Result<Option<Image>, Alloc
         exec: true,
         bytes,
     })?;
-    Ok(Some(Image {
-        entry: u64::from(start),
-        segments,
-        input: Vec::new(alloc),
-    }))
+    let image = Image::new(alloc, u64::from(start), segments, Vec::new(alloc))?;
+    Ok(Some(image))
 }
 
 fn end_of(alloc: Global, start: u32, words: &[u32], limit: u32) -> Result<Result<Ran, RunEnd>, Fail>
@@ -190,6 +189,11 @@ fn steps_of_a_store(rt: HostRuntime) -> Result<(), Fail> {
 }
 
 #[test]
+fn bytes_of_memory(rt: HostRuntime) {
+    byte_machine();
+}
+
+#[test]
 fn input_window(rt: HostRuntime) -> Result<(), Fail> {
     let image = tiny(rt.alloc(), START, &[0x0000_0073])?.ok_or("no image")?;
     let image = image.with_input([1, 2, 3].to_vec(rt.alloc())?);
@@ -198,5 +202,9 @@ fn input_window(rt: HostRuntime) -> Result<(), Fail> {
     assert_eq!(&rt; image.word(START / 8), 0x73);
     assert_eq!(&rt; image.fetch(0x1_0078), Some(0x73));
     assert_eq!(&rt; image.fetch(0x1_007C), None);
+    assert_eq!(&rt; image.instruction(0x1_0078), Some(Instr::Ecall));
+    assert_eq!(&rt; image.decoded(0x1_0078), Some(&Instr::Ecall));
+    assert_eq!(&rt; image.instruction(0x1_007A), None);
+    assert_eq!(&rt; image.instruction(0x1_007C), None);
     Ok(())
 }

@@ -9,21 +9,26 @@ use Rattle.std.proofs.lemmas.List.{length-append, append-nil, drop_all}
 use Rattle.std.proofs.lemmas.List.Elements.{All-head, All-tail}
 use Rattle.gold.specs.Field.{p, IsCanonical, AreCanonical}
 use Rattle.gold.specs.declared.instances.Table.{Table}
+use Rattle.gold.specs.declared.instances.Witness.{Witness}
 use Rattle.gold.specs.declared.shapes.AirShape.{AirShape}
+use Rattle.gold.specs.declared.shapes.Form.{Form}
+use Rattle.gold.specs.declared.shapes.Form.TheVariants.{Plain, One, Two}
+use Rattle.gold.specs.declared.shapes.Profile.{Profile}
+use Rattle.gold.specs.declared.shapes.Profile.TheVariants.{Small, Wide}
 use Rattle.gold.specs.declared.shapes.Shape.{Shape}
 use Rattle.tab_file.specs.declared.fault.TabErr.{TabErr}
 use Rattle.tab_file.specs.declared.fault.TabKind.{TabKind}
 use Rattle.tab_file.specs.declared.fault.TabKind.TheVariants.{BadMagic, BadVersion, BadOrder, BadShape, BadAir, NotCanonical, NoMain, NotOneOut, TooMany}
-use Rattle.tab_file.specs.Format.{number, value, header, instance_text}
-use Rattle.gold.specs.Shapes.{Place, places_from, Fits, Fill, is_main, is_out, IsCount, AreCounts, counts_of}
-use Rattle.tab_file.specs.Items.{Item, failure, number_at, wrong_at, first_failure, exactly, count_item, count_items, air_item, value_item, instance_items, places_items}
-use Rattle.tab_file.specs.Reading.{front_items, numbers_from, items, promised_counts, rows_at, TabReads}
-use Rattle.tab_file.specs.Steps.{Pass, columns_from, table_at, tables_from, instance_len, places_len, promised_tables}
+use Rattle.tab_file.specs.Format.{number, value, profile_number, version, header, instance_text, instances_text, rows_at}
+use Rattle.gold.specs.Shapes.{Place, places_from, Fits, Fill, IsProfileOf, is_machine, in_profile, is_main, is_out, IsCount, AreCounts, airs_of, counts_of}
+use Rattle.tab_file.specs.Items.{Item, failure, number_at, wrong_at, first_failure, exactly, profile_item, count_item, count_items, air_item, value_item, instance_items, places_items}
+use Rattle.tab_file.specs.Reading.{numbers_from, version_items, version_end, front_items, front_end, profile_of, promised_profile, promised_airs, promised_counts, body_items, items, TabReads}
+use Rattle.tab_file.specs.Steps.{Pass, columns_from, table_at, tables_from, instance_len, places_len, body_tables, promised}
 use Rattle.tab_file.proofs.Going.{Pass-none, Pass-then, Pass-more, Pass-after_four}
 use Rattle.tab_file.proofs.Stands.{Stands, Stands-first, Stands-second, IsWide, wide32, wide64, number_at-Stands}
 use Rattle.tab_file.proofs.Takes.{AreKnown}
 use Rattle.tab_file.proofs.Counts.{known, neq-eqb}
-use Rattle.tab_file.proofs.Whole.{regrouped, ends_whole}
+use Rattle.tab_file.proofs.Whole.{promised_is, ends_whole}
 
 -- ---- one item
 
@@ -212,14 +217,70 @@ counts_again bytes at machine a (f ∷ fs) (c ∷ cs) next counts s =
       others.2 ∙ e,
     )
 
-front_again : (bytes : List ℕ) (airs next : ℕ) → airs < 2 ^ 32 → Stands bytes 0 (codes "ZKWT" ++ number 1 ++ number airs) next → Pass bytes 0 (front_items airs) 12
-front_again bytes airs next bits s =
-    let two = Stands-first bytes 0 next (codes "ZKWT" ++ number 1) (number airs) s in
-    let p0 = exactly_again bytes 0 0x5457_4b5a BadMagic 0 4 (omega arith) (Stands-first bytes 0 8 (codes "ZKWT") (number 1) two) in
-    let p1 = exactly_again bytes 4 1 BadVersion 0 8 (omega arith) (Stands-second bytes 0 8 (codes "ZKWT") (number 1) two) in
-    let p2 = exactly_again bytes 8 airs BadAir 0 next bits (Stands-second bytes 0 next (codes "ZKWT" ++ number 1) (number airs) s) in
-    Pass-then bytes 0 4 12 (exactly 0x5457_4b5a BadMagic 0 ∷ []) (exactly 1 BadVersion 0 ∷ exactly airs BadAir 0 ∷ []) p0
-    (Pass-then bytes 4 8 12 (exactly 1 BadVersion 0 ∷ []) (exactly airs BadAir 0 ∷ []) p1 p2)
+profile_again : (bytes : List ℕ) (profile : Profile) (next : ℕ) → Stands bytes 8 (number (profile_number profile)) next → Pass bytes 8 (profile_item ∷ []) 12 × (profile_of (number_at w32 bytes 8) ≡ profile)
+profile_again bytes Small next s =
+    (item_again (2 ^ 32) bytes 8 1 next profile_item wide32 (omega arith) s refl, ap profile_of (number_at-Stands w32 (2 ^ 32) wide32 bytes 8 1 next (omega arith) s))
+profile_again bytes Wide next s =
+    (item_again (2 ^ 32) bytes 8 2 next profile_item wide32 (omega arith) s refl, ap profile_of (number_at-Stands w32 (2 ^ 32) wide32 bytes 8 2 next (omega arith) s))
+
+-- the version stands there and the profile is read
+record IsFront (bytes : List ℕ) (at : ℕ) (items : List Item) (end : ℕ) (form : Form) (profile : Profile) : Type 0 where
+  pub pass : Pass bytes at items end
+  pub told : promised_profile bytes form ≡ profile
+
+version_again : (bytes : List ℕ) (form : Form) (profile : Profile) → IsProfileOf form profile → Stands bytes 4 (version form profile) (version_end form) → IsFront bytes 4 (version_items form) (version_end form) form profile
+version_again bytes Plain profile its s = record { pass = exactly_again bytes 4 1 BadVersion 0 8 (omega arith) s; told = sym its }
+version_again bytes One profile its s = record { pass = exactly_again bytes 4 1 BadVersion 0 8 (omega arith) s; told = sym its }
+version_again bytes Two profile its s =
+    let p0 = exactly_again bytes 4 2 BadVersion 0 8 (omega arith) (Stands-first bytes 4 12 (number 2) (number (profile_number profile)) s) in
+    let p1 = profile_again bytes profile 12 (Stands-second bytes 4 12 (number 2) (number (profile_number profile)) s) in
+    record { pass = Pass-then bytes 4 8 12 (exactly 2 BadVersion 0 ∷ []) (profile_item ∷ []) p0 p1.0; told = p1.1 }
+
+pub version_len : (form : Form) (profile : Profile) → 4 + length (version form profile) ≡ version_end form
+version_len Plain profile = refl
+version_len One profile = refl
+version_len Two Small = refl
+version_len Two Wide = refl
+
+front_again : (bytes : List ℕ) (form : Form) (profile : Profile) (airs : ℕ) → IsProfileOf form profile → airs < 2 ^ 32 → Stands bytes 0 (codes "ZKWT" ++ version form profile ++ number airs) (front_end form)
+    → IsFront bytes 0 (front_items form airs) (front_end form) form profile
+front_again bytes form profile airs its bits s =
+    let v = version form profile in
+    let end : 0 + length (codes "ZKWT" ++ v) ≡ version_end form = omega (arith, length-append (codes "ZKWT") v, version_len form profile) in
+    let two : Stands bytes 0 (codes "ZKWT" ++ v) (version_end form) = subst (λ (m : ℕ). Stands bytes 0 (codes "ZKWT" ++ v) m) end (Stands-first bytes 0 (front_end form) (codes "ZKWT" ++ v) (number airs) s) in
+    let three : Stands bytes (version_end form) (number airs) (front_end form) = subst (λ (m : ℕ). Stands bytes m (number airs) (front_end form)) end (Stands-second bytes 0 (front_end form) (codes "ZKWT" ++ v) (number airs) s) in
+    let p0 = exactly_again bytes 0 0x5457_4b5a BadMagic 0 4 (omega arith) (Stands-first bytes 0 (version_end form) (codes "ZKWT") v two) in
+    let p1 = version_again bytes form profile its (Stands-second bytes 0 (version_end form) (codes "ZKWT") v two) in
+    let p2 = exactly_again bytes (version_end form) airs BadAir 0 (front_end form) bits three in
+    record {
+      pass = Pass-then bytes 0 4 (front_end form) (exactly 0x5457_4b5a BadMagic 0 ∷ []) (version_items form ++ exactly airs BadAir 0 ∷ []) p0
+          (Pass-then bytes 4 (version_end form) (front_end form) (version_items form) (exactly airs BadAir 0 ∷ []) p1.pass p2);
+      told = p1.told;
+    }
+
+-- ---- from the numbers of instances on
+
+-- no item fails, and the tables are the ones that are read
+record IsBody (bytes : List ℕ) (start : ℕ) (machine : Bool) (tables : List Table) (fs : List AirShape) : Type 0 where
+  pub fine : first_failure bytes start (body_items machine fs (numbers_from w32 bytes start (length fs))) ≡ None
+  pub same : body_tables bytes start fs (numbers_from w32 bytes start (length fs)) ≡ tables
+
+body_again : (bytes : List ℕ) (start : ℕ) (machine : Bool) (fs : List AirShape) (cs : List ℕ) (tables : List Table) (next : ℕ) → AreCounts machine 0 fs cs → Fill (places_from 0 fs cs) tables
+    → Stands bytes start (flat_map number cs) next → Stands bytes next (instances_text fs tables) (length bytes) → IsBody bytes start machine tables fs
+body_again bytes start machine fs cs tables next counts fill front rest =
+    let counted = counts_again bytes start machine 0 fs cs next counts front in
+    let at = start + 4 * length fs in
+    let tail : Stands bytes (start + 4 * length fs) (instances_text fs tables) (length bytes) = subst (λ (m : ℕ). Stands bytes m (instances_text fs tables) (length bytes)) counted.2 rest in
+    let read = tables_again bytes at (length fs) (rows_at fs) (places_from 0 fs cs) tables (length bytes) (known fs cs) fill tail in
+    let numbers : numbers_from w32 bytes start (length fs) ≡ cs = counted.1 in
+    let last = λ (ds : List ℕ). places_items (length fs) (places_from 0 fs ds) in
+    let end = at + places_len (places_from 0 fs cs) in
+    let at_last : first_failure bytes at (last cs) ≡ None =
+    ap (first_failure bytes at) (sym (append-nil (last cs))) ∙ read.0.rest [] ∙ ends_whole bytes end (omega (arith, read.2)) in
+    record {
+      fine = counted.0.rest (last (numbers_from w32 bytes start (length fs))) ∙ ap (λ (ds : List ℕ). first_failure bytes at (last ds)) numbers ∙ at_last;
+      same = ap (λ (ds : List ℕ). tables_from bytes at (places_from 0 fs ds)) numbers ∙ read.1;
+    }
 
 -- ---- the file
 
@@ -230,33 +291,33 @@ stands_all bytes text e = record {
   split = e ∙ sym (append-nil text) ∙ ap (λ (xs : List ℕ). text ++ xs) (sym (drop_all (length bytes) bytes (omega arith)));
 }
 
--- no item of the file fails, and the tables are the ones that it reads as
-pub record IsRead (bytes : List ℕ) (shape : Shape) (tables : List Table) : Type 0 where
+-- no item of the file fails, and the witness is the one that it reads as
+pub record IsRead (bytes : List ℕ) (shape : Shape) (witness : Witness) : Type 0 where
   pub fine : first_failure bytes 0 (items bytes shape) ≡ None
-  pub same : promised_tables bytes shape ≡ tables
+  pub same : promised bytes shape ≡ witness
 
-pub file_again : (bytes : List ℕ) (shape : Shape) (tables : List Table) → TabReads bytes shape tables → IsRead bytes shape tables
-file_again bytes shape tables reads =
-    let fs = shape.airs in
+pub file_again : (bytes : List ℕ) (shape : Shape) (witness : Witness) → TabReads bytes shape witness → IsRead bytes shape witness
+file_again bytes shape witness reads =
+    let form = shape.form in
+    let profile = witness.profile in
+    let fs = airs_of shape witness in
     let airs = length shape.airs in
-    let cs = counts_of shape tables in
-    let start = 12 + 4 * airs in
-    let body = flat_map (λ (t : Table). instance_text (rows_at fs t.air) t) tables in
-    let front = codes "ZKWT" ++ number 1 ++ number airs in
-    let all = stands_all bytes (header airs cs ++ body) reads.spelled in
-    let head = Stands-first bytes 0 (length bytes) (header airs cs) body all in
-    let pass0 = front_again bytes airs 12 reads.shaped.bits (Stands-first bytes 0 (0 + length (header airs cs)) front (flat_map number cs) head) in
-    let counted = counts_again bytes 12 shape.machine 0 fs cs (0 + length (header airs cs)) reads.shaped.counted (Stands-second bytes 0 (0 + length (header airs cs)) front (flat_map number cs) head) in
-    let tail : Stands bytes (12 + 4 * airs) (flat_map (λ (t : Table). instance_text (rows_at fs t.air) t) tables) (length bytes) =
-    subst (λ (m : ℕ). Stands bytes m body (length bytes)) counted.2 (Stands-second bytes 0 (length bytes) (header airs cs) body all) in
-    let read = tables_again bytes start airs (rows_at fs) (places_from 0 fs cs) tables (length bytes) (known fs cs) reads.shaped.filled tail in
-    let promised : promised_counts bytes shape ≡ counts_of shape tables = counted.1 in
-    let last = λ (ds : List ℕ). places_items airs (places_from 0 fs ds) in
-    let end = start + places_len (places_from 0 fs cs) in
-    let at_last : first_failure bytes start (last cs) ≡ None =
-    ap (first_failure bytes start) (sym (append-nil (last cs))) ∙ read.0.rest [] ∙ ends_whole bytes end (omega (arith, read.2)) in
+    let cs = counts_of shape witness in
+    let v = version form profile in
+    let front = codes "ZKWT" ++ v ++ number airs in
+    let whole = header form profile airs cs in
+    let instances = instances_text fs witness.tables in
+    let all = stands_all bytes (whole ++ instances) reads.spelled in
+    let head = Stands-first bytes 0 (length bytes) whole instances all in
+    let end : 0 + length (codes "ZKWT" ++ v ++ number airs) ≡ front_end form =
+    omega (arith, length-append (codes "ZKWT" ++ v) (number airs), length-append (codes "ZKWT") v, version_len form profile) in
+    let s0 : Stands bytes 0 (codes "ZKWT" ++ v ++ number airs) (front_end form) = subst (λ (m : ℕ). Stands bytes 0 front m) end (Stands-first bytes 0 (0 + length whole) front (flat_map number cs) head) in
+    let s1 : Stands bytes (front_end form) (flat_map number (counts_of shape witness)) (0 + length whole) = subst (λ (m : ℕ). Stands bytes m (flat_map number cs) (0 + length whole)) end (Stands-second bytes 0 (0 + length whole) front (flat_map number cs) head) in
+    let first = front_again bytes form profile airs reads.shaped.profile reads.shaped.bits s0 in
+    let body = body_again bytes (front_end form) (is_machine form) fs cs witness.tables (0 + length whole) reads.shaped.counted reads.shaped.filled s1 (Stands-second bytes 0 (length bytes) whole instances all) in
+    let same : airs_of shape witness ≡ promised_airs bytes shape = ap (λ (p : Profile). in_profile p shape.airs) (sym first.told) in
+    let here = subst (λ (gs : List AirShape). IsBody bytes (front_end form) (is_machine form) witness.tables gs) same body in
     record {
-      fine = regrouped bytes shape ∙ pass0.rest (count_items shape.machine 0 fs ++ last (promised_counts bytes shape)) ∙ counted.0.rest (last (promised_counts bytes shape))
-          ∙ ap (λ (ds : List ℕ). first_failure bytes start (last ds)) promised ∙ at_last;
-      same = ap (λ (ds : List ℕ). tables_from bytes start (places_from 0 fs ds)) promised ∙ read.1;
+      fine = first.pass.rest (body_items (is_machine form) (promised_airs bytes shape) (promised_counts bytes shape)) ∙ here.fine;
+      same = sym (promised_is bytes shape profile (front_end form) (promised_airs bytes shape) witness.tables (sym first.told) refl refl (sym here.same));
     }

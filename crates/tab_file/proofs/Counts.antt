@@ -7,7 +7,7 @@ use Rattle.gold.specs.declared.instances.Table.{Table}
 use Rattle.gold.specs.declared.shapes.AirShape.{AirShape}
 use Rattle.gold.specs.Shapes.{counts_from}
 use Rattle.gold.specs.Shapes.{Place, instances_from, places_from, Fill}
-use Rattle.tab_file.specs.Reading.{rows_at}
+use Rattle.tab_file.specs.Format.{rows_at}
 use Rattle.tab_file.specs.Steps.{place}
 use Rattle.tab_file.proofs.Takes.{AreKnown}
 

@@ -8,3 +8,4 @@ pub mod Found
 pub mod Again
 pub mod Exclusive
 pub mod Heights
+pub mod OfFile

@@ -95,15 +95,15 @@ count_items-more machine fs a f h =
     rw (drop_more fs a f h) (ap (λ (j : ℕ). count_item machine a (get_or fs a f) ∷ count_items machine j (drop (a + 1) fs)) s)
 
 -- the counts that are left after the first a airs, one more
-pub counts_pass : (bytes : List ℕ) (machine : Bool) (fs : List AirShape) (at a : ℕ) → a < length fs
-    → ((more : List Item) → first_failure bytes 12 (count_items machine 0 fs ++ more) ≡ first_failure bytes at (count_items machine a (drop a fs) ++ more))
+pub counts_pass : (bytes : List ℕ) (start : ℕ) (machine : Bool) (fs : List AirShape) (at a : ℕ) → a < length fs
+    → ((more : List Item) → first_failure bytes start (count_items machine 0 fs ++ more) ≡ first_failure bytes at (count_items machine a (drop a fs) ++ more))
     → Pass bytes at (count_item machine a (get_or fs a no_form) ∷ []) (at + 4)
-    → (more : List Item) → first_failure bytes 12 (count_items machine 0 fs ++ more) ≡ first_failure bytes (at + 4) (count_items machine (a + 1) (drop (a + 1) fs) ++ more)
-counts_pass bytes machine fs at a h left pass more =
+    → (more : List Item) → first_failure bytes start (count_items machine 0 fs ++ more) ≡ first_failure bytes (at + 4) (count_items machine (a + 1) (drop (a + 1) fs) ++ more)
+counts_pass bytes start machine fs at a h left pass more =
     left more ∙ ap (λ (is : List Item). first_failure bytes at (is ++ more)) (count_items-more machine fs a no_form h) ∙ pass.rest (count_items machine (a + 1) (drop (a + 1) fs) ++ more)
 
-pub counts_fail : (bytes : List ℕ) (machine : Bool) (fs : List AirShape) (at a : ℕ) (e : TabErr) → a < length fs
-    → ((more : List Item) → first_failure bytes 12 (count_items machine 0 fs ++ more) ≡ first_failure bytes at (count_items machine a (drop a fs) ++ more))
-    → Fail bytes at (count_item machine a (get_or fs a no_form) ∷ []) e → Fail bytes 12 (count_items machine 0 fs) e
-counts_fail bytes machine fs at a e h left fail fault more =
+pub counts_fail : (bytes : List ℕ) (start : ℕ) (machine : Bool) (fs : List AirShape) (at a : ℕ) (e : TabErr) → a < length fs
+    → ((more : List Item) → first_failure bytes start (count_items machine 0 fs ++ more) ≡ first_failure bytes at (count_items machine a (drop a fs) ++ more))
+    → Fail bytes at (count_item machine a (get_or fs a no_form) ∷ []) e → Fail bytes start (count_items machine 0 fs) e
+counts_fail bytes start machine fs at a e h left fail fault more =
     left more ∙ ap (λ (is : List Item). first_failure bytes at (is ++ more)) (count_items-more machine fs a no_form h) ∙ fail fault (count_items machine (a + 1) (drop (a + 1) fs) ++ more)

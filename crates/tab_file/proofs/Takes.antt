@@ -31,7 +31,7 @@ both_none None b e = (refl, e)
 both_none (Some x) b e = absurd cc
 
 -- a test that names nothing wrong
-passed : (b : Bool) (e : TabErr) → cond b none (Some e) ≡ None → b ≡ true
+pub passed : (b : Bool) (e : TabErr) → cond b none (Some e) ≡ None → b ≡ true
 passed true e h = refl
 passed false e h = absurd cc
 

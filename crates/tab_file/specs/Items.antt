@@ -1,5 +1,5 @@
 -- The items of a table file, and what is wrong with each.
-use Rattle.std.specs.Prelude.{ℕ, suc, ◌+◌, ◌-◌, ◌*◌, Bool, ◌==◌, ◌&&◌, nat_lt, nat_le, if◌then◌else◌, List, [], ◌∷◌, length, take, drop, replicate, Option, None, Some}
+use Rattle.std.specs.Prelude.{ℕ, suc, ◌+◌, ◌-◌, ◌*◌, Bool, ◌==◌, ◌&&◌, ◌||◌, nat_lt, nat_le, if◌then◌else◌, List, [], ◌∷◌, length, take, drop, replicate, Option, None, Some}
 use Rattle.std.specs.Option.{option_or}
 use Rattle.std.specs.Int.{Width, w32, w64, byte_len, from_le_bytes}
 use Rattle.std.specs.List.{flat_map}
@@ -7,7 +7,7 @@ use Rattle.gold.specs.Field.{p}
 use Rattle.gold.specs.declared.shapes.AirShape.{AirShape}
 use Rattle.tab_file.specs.declared.fault.TabErr.{TabErr}
 use Rattle.tab_file.specs.declared.fault.TabKind.{TabKind}
-use Rattle.tab_file.specs.declared.fault.TabKind.TheVariants.{Short, BadAir, NoMain, NotOneOut, TooMany, BadOrder, BadShape, NotCanonical, Trailing}
+use Rattle.tab_file.specs.declared.fault.TabKind.TheVariants.{Short, BadProfile, BadAir, NoMain, NotOneOut, TooMany, BadOrder, BadShape, NotCanonical, Trailing}
 use Rattle.gold.specs.Shapes.{Place, is_main, is_out}
 
 -- the kind and the offset
@@ -39,6 +39,10 @@ first_failure bytes at (item ∷ items) = option_or (wrong_at bytes at item) (fi
 -- the number n and no other; what is wrong is told of the place that many bytes before
 abbrev pub exactly : ℕ → TabKind → ℕ → Item
 exactly n kind back = record { width = w32; wrong = λ at v. if v == n then None else Some (failure kind (at - back)) }
+
+-- the number of a profile, 1 or 2
+abbrev pub profile_item : Item
+profile_item = record { width = w32; wrong = λ at v. if v == 1 || v == 2 then None else Some (failure BadProfile at) }
 
 -- the number of instances of an air
 abbrev pub count_wrong : Bool → ℕ → AirShape → ℕ → ℕ → Option TabErr

@@ -2,4 +2,3 @@ pub mod Format
 pub mod Items
 pub mod Reading
 pub mod Steps
-pub mod Machine

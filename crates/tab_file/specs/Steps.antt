@@ -7,17 +7,22 @@ use Rattle.tab_file.specs.declared.fault.TabErr.{TabErr}
 use Rattle.tab_file.specs.declared.fault.TabKind.TheVariants.{NoMemory}
 use Rattle.gold.specs.declared.shapes.Shape.{Shape}
 use Rattle.gold.specs.Shapes.{Place, places_from}
-use Rattle.tab_file.specs.Items.{Item, number_at, first_failure, places_items}
-use Rattle.tab_file.specs.Reading.{numbers_from, promised_counts}
+use Rattle.gold.specs.declared.instances.Witness.{Witness}
+use Rattle.tab_file.specs.Items.{Item, failure, number_at, first_failure, places_items}
+use Rattle.tab_file.specs.Reading.{numbers_from, front_end, promised_profile, promised_airs, promised_counts}
 
 -- the items stand at an offset, none of them fails, and what follows them goes on at next
 pub record Pass (bytes : List ℕ) (at : ℕ) (items : List Item) (next : ℕ) : Type 0 where
   pub whole : next ≤ length bytes
   pub rest : (more : List Item) → first_failure bytes at (items ++ more) ≡ first_failure bytes next more
 
+-- memory ran out
+abbrev pub out_of_memory : TabErr
+out_of_memory = failure NoMemory 0
+
 -- the items stand at an offset, and one of them fails first, unless memory ran out
 abbrev pub Fail : List ℕ → ℕ → List Item → TabErr → Type 0
-Fail bytes at items e = e.kind ≢ NoMemory → (more : List Item) → first_failure bytes at (items ++ more) ≡ Some e
+Fail bytes at items e = e ≢ out_of_memory → (more : List Item) → first_failure bytes at (items ++ more) ≡ Some e
 
 -- so many columns of so many rows each, from an offset on
 abbrev pub columns_from : List ℕ → ℕ → ℕ → ℕ → List (List ℕ)
@@ -50,10 +55,20 @@ abbrev pub tables_from : List ℕ → ℕ → List Place → List Table
 tables_from bytes at [] = []
 tables_from bytes at (p ∷ ps) = table_at bytes at p ∷ tables_from bytes (at + instance_len p) ps
 
--- the instances that the file's header promises
-abbrev pub promised_tables : List ℕ → Shape → List Table
-promised_tables bytes shape =
-    tables_from bytes (12 + 4 * length shape.airs) (places_from 0 shape.airs (promised_counts bytes shape))
+-- the tables that the file's header promises: so many instances of each of these airs, from the counts on
+abbrev pub body_tables : List ℕ → ℕ → List AirShape → List ℕ → List Table
+body_tables bytes start airs counts = tables_from bytes (start + 4 * length airs) (places_from 0 airs counts)
+
+abbrev pub promised : List ℕ → Shape → Witness
+promised bytes shape = record {
+  profile = promised_profile bytes shape.form;
+  tables = body_tables bytes (front_end shape.form) (promised_airs bytes shape) (promised_counts bytes shape);
+}
+
+-- the number of rows, which the first column tells
+abbrev pub height : List (List ℕ) → ℕ
+height [] = 0
+height (c ∷ cs) = length c
 
 -- of the instances of ps, which were to be read from start on and put after the tables before, those of qs
 -- are left: they are to be read from at on and put after the tables so far

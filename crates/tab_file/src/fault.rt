@@ -11,8 +11,10 @@ pub enum TabKind {
     Short,
     /// The first four bytes aren't `ZKWT`.
     BadMagic,
-    /// The version isn't 1.
+    /// The version isn't the one of the shape's form: 2 under Two, else 1.
     BadVersion,
+    /// The profile of a file in format 2 is neither 1 nor 2.
+    BadProfile,
     /// The number of airs isn't the shape's, or an instance's air isn't below it.
     BadAir,
     /// A machine's file has no instance of Main.
@@ -30,7 +32,7 @@ pub enum TabKind {
     NotCanonical,
     /// A byte follows the last instance.
     Trailing,
-    /// Memory ran out. It says nothing of the file, and the offset means nothing.
+    /// Memory ran out. It says nothing of the file, and the offset is 0.
     NoMemory,
 }
 

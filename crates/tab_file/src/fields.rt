@@ -3,17 +3,14 @@ ghost use Rattle.std.specs.Prelude.{◌≡◌, ◌≤◌, ◌<◌, ◌+◌, ◌�
 ghost use Rattle.std.specs.Int.{w32, w64};
 ghost use Rattle.gold.specs.Field.{p};
 ghost use Rattle.tab_file.specs.declared.fault.TabKind.TheVariants.{Short};
-ghost use Rattle.tab_file.specs.Items.{failure, number_at, exactly, air_item, count_item, value_item};
+ghost use Rattle.tab_file.specs.Items.{failure, number_at, exactly, profile_item, air_item, count_item, value_item};
+ghost use Rattle.tab_file.specs.Reading.{profile_of};
 ghost use Rattle.tab_file.specs.Steps.{Pass, Fail};
 
 use crate::fault::{TabErr, TabKind};
-use gold::{AirShape, Fe};
-
-/// The air Main of a machine.
-const MAIN: usize = 0;
-
-/// The air Out of a machine.
-const OUT: usize = 6;
+use crate::numbers::{SMALL, WIDE};
+use gold::{AirShape, Fe, Profile};
+use zk_layout::Air;
 
 /// A number of 32 bits at an offset.
 fn u32_at(bytes: &[u8], at: usize) -> Result<u32, TabErr>
@@ -99,7 +96,22 @@ pub(crate) fn air_at(bytes: &[u8], at: usize, airs: u64, wanted: u64) -> Result<
     Ok(air)
 }
 
+/// A profile.
+pub(crate) fn profile_at(bytes: &[u8], at: usize) -> Result<Profile, TabErr>
+    requires { at ≤ length bytes.now }
+    ensures value { IfOk result (λ v. v ≡ profile_of (number_at w32 bytes.now at)) }
+    ensures pass { IfOk result (λ v. Pass bytes.now at (profile_item ∷ []) (at + 4)) }
+    ensures fail { IfErr result (Fail bytes.now at (profile_item ∷ [])) }
+{
+    match u32_at(bytes, at)? {
+        SMALL => Ok(Profile::Small),
+        WIDE => Ok(Profile::Wide),
+        _ => Err(fault(TabKind::BadProfile, at)),
+    }
+}
+
 /// How many instances of an air there are.
+#[tactic(auto, unfolding(zk_layout::specs::Air::air_number))]
 pub(crate) fn count_at(
     bytes: &[u8],
     at: usize,
@@ -113,11 +125,11 @@ pub(crate) fn count_at(
     ensures fail { IfErr result (Fail bytes.now at (count_item machine air form.now ∷ [])) }
 {
     let count = u32_at(bytes, at)?;
-    if machine && air == OUT {
+    if machine && air == Air::Out.number() as usize {
         if count != 1 {
             return Err(fault(TabKind::NotOneOut, at));
         }
-    } else if machine && air == MAIN && count == 0 {
+    } else if machine && air == Air::Main.number() as usize && count == 0 {
         return Err(fault(TabKind::NoMain, at));
     } else if count > form.most {
         return Err(fault(TabKind::TooMany, at));

@@ -1,27 +1,42 @@
 //! What holds of all files and tables.
-ghost use Rattle.std.specs.Prelude.{◌≡◌, ◌<◌, ℕ, List, ◌⊎◌, slice_index};
-ghost use Rattle.gold.specs.declared.instances.Table.{Table};
+ghost use Rattle.std.specs.Prelude.{◌≡◌, ◌<◌, ℕ, List, ◌⊎◌, MatchResult, slice_index};
+ghost use Rattle.gold.specs.Shapes.{HaveShape};
+ghost use Rattle.zk_layout.specs.Air.{machine_shape_of};
+ghost use Rattle.gold.specs.declared.instances.Witness.{Witness};
+ghost use Rattle.gold.specs.declared.shapes.Form.TheVariants.{Two};
 ghost use Rattle.gold.specs.declared.shapes.Shape.{Shape};
 ghost use Rattle.tab_file.specs.declared.fault.TabKind.{TabKind};
-ghost use Rattle.gold.specs.Shapes.{HaveShape};
-ghost use Rattle.tab_file.specs.Machine.{IsMachineForm, machine_text};
+ghost use Rattle.tab_file.specs.declared.fault.TabKind.TheVariants.{NoMemory};
 ghost use Rattle.tab_file.specs.Reading.{TabReads, TabFails};
 
-/// Under a shape, bytes either read as tables, or an item of them fails first, and not both.
+use crate::{TabErr, read, write};
+use gold::{Form, Witness};
+use std::alloc::Global;
+use zk_layout::machine_shape;
+
+/// Under a shape, bytes either read as tables, or an item of them fails first, and not both. No item
+/// fails for want of memory.
 pub fn reads_or_fails()
     ensures one { (bytes : List ℕ) (shape : Shape) → ((i : ℕ) → slice_index bytes i < 256)
-        → ((tables : List Table) × TabReads bytes shape tables) ⊎ ((kind : TabKind) × (at : ℕ) × TabFails bytes shape kind at) }
-    ensures not_both { (bytes : List ℕ) (shape : Shape) (tables : List Table) (kind : TabKind) (at : ℕ)
-        → TabReads bytes shape tables → TabFails bytes shape kind at → ⊥ }
+        → ((witness : Witness) × TabReads bytes shape witness) ⊎ ((kind : TabKind) × (at : ℕ) × TabFails bytes shape kind at) }
+    ensures not_both { (bytes : List ℕ) (shape : Shape) (witness : Witness) (kind : TabKind) (at : ℕ)
+        → TabReads bytes shape witness → TabFails bytes shape kind at → ⊥ }
+    ensures no_memory { (bytes : List ℕ) (shape : Shape) (at : ℕ) → TabFails bytes shape NoMemory at → ⊥ }
 {}
 
-/// Under a shape, bytes read as one list of tables, and tables are read from one text.
+/// Under a shape, bytes read as one witness, and a witness is read from one text.
 pub fn one_text()
-    ensures tables { (bytes : List ℕ) (shape : Shape) (a b : List Table) → TabReads bytes shape a → TabReads bytes shape b → a ≡ b }
-    ensures bytes { (a b : List ℕ) (shape : Shape) (tables : List Table) → TabReads a shape tables → TabReads b shape tables → a ≡ b }
+    ensures witness { (bytes : List ℕ) (shape : Shape) (a b : Witness) → TabReads bytes shape a → TabReads bytes shape b → a ≡ b }
+    ensures bytes { (a b : List ℕ) (shape : Shape) (witness : Witness) → TabReads a shape witness → TabReads b shape witness → a ≡ b }
 {}
 
-/// Tables of a machine's shape are read from the machine's text.
-pub fn machine_reads()
-    ensures { (shape : Shape) (tables : List Table) → IsMachineForm shape → HaveShape shape tables → TabReads (machine_text tables) shape tables }
-{}
+/// What is written of the machine's tables reads as the tables, unless memory runs out.
+pub fn written_reads(alloc: Global, witness: &Witness) -> Result<Witness, TabErr>
+    requires { HaveShape (machine_shape_of Two) witness.now }
+    ensures { MatchResult result (λ w. w ≡ witness.now) (λ e. e.kind ≡ NoMemory) }
+{
+    let bytes = write(alloc, witness)?;
+    let shape = machine_shape(alloc, Form::Two)?;
+    let again = read(alloc, &bytes, &shape)?;
+    Ok(again)
+}

@@ -1,9 +1,11 @@
-//! The table file, format 1: a machine's tables as bytes, and bytes read against a shape.
+//! The table file: a machine's tables as bytes in format 2, and bytes read against a shape, in format 1 or
+//! format 2 as its form says.
 #![tactic(auto)]
 
 mod fault;
 mod fields;
 pub mod laws;
+mod numbers;
 mod reading;
 mod writing;
 

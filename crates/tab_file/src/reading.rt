@@ -2,22 +2,18 @@
 ghost use Rattle.std.specs.Prelude.{◌≡◌, ◌≢◌, ◌≤◌, ◌<◌, ◌+◌, ◌*◌, ◌^◌, ◌++◌, ◌∷◌, [], List, length, replicate, IfOk, IfErr, MatchResult, None, Some};
 ghost use Rattle.std.specs.Int.{w32, w64};
 ghost use Rattle.gold.specs.declared.instances.Table.{Table};
-ghost use Rattle.tab_file.specs.declared.fault.TabKind.TheVariants.{BadMagic, BadVersion, BadAir, NoMemory};
-ghost use Rattle.gold.specs.Shapes.{instances_from, places_from};
-ghost use Rattle.tab_file.specs.Items.{exactly, count_items, value_item, instance_items, places_items, first_failure, failure};
-ghost use Rattle.tab_file.specs.Reading.{numbers_from, front_items, header_items, items, promised_counts, TabReads, TabFails};
-ghost use Rattle.tab_file.specs.Steps.{Pass, Fail, columns_from, table_at, tables_from, instance_len, place, promised_tables, Leaves};
+ghost use Rattle.gold.specs.declared.instances.Witness.{Witness};
+ghost use Rattle.tab_file.specs.declared.fault.TabKind.TheVariants.{NoMemory};
+ghost use Rattle.gold.specs.Shapes.{in_profile, instances_from, places_from};
+ghost use Rattle.tab_file.specs.Items.{count_items, value_item, instance_items, places_items, first_failure};
+ghost use Rattle.tab_file.specs.Reading.{numbers_from, version_items, version_end, front_items, front_end, promised_profile, body_items, items, TabReads, TabFails};
+ghost use Rattle.tab_file.specs.Steps.{Pass, Fail, out_of_memory, columns_from, table_at, instance_len, place, body_tables, promised, Leaves};
 
 use crate::fault::{TabErr, TabKind};
-use crate::fields::{air_at, count_at, expect, fault, value_at};
-use gold::{AirShape, Column, Columns, Shape, Table, Tables, Witness};
-use std::alloc::Global;
-
-/// `ZKWT` as a number.
-const MAGIC: u64 = 0x5457_4b5a;
-
-/// The version of the format.
-const VERSION: u64 = 1;
+use crate::fields::{air_at, count_at, expect, fault, profile_at, value_at};
+use crate::numbers::{MAGIC, ONE, TWO};
+use gold::{AirShape, Column, Columns, Form, Profile, Shape, Table, Tables, Witness};
+use std::alloc::{AllocError, Global};
 
 /// An air of a shape.
 #[derive(Clone, Copy)]
@@ -125,31 +121,69 @@ fn instances(
     Ok(at)
 }
 
-/// The magic, the version and the number of airs.
-fn front(bytes: &[u8], airs: u64) -> Result<(), TabErr>
-    ensures bits { IfOk result (λ _. airs < 2 ^ 32) }
-    ensures pass { IfOk result (λ _. Pass bytes.now 0 (front_items airs) 12) }
-    ensures fail { IfErr result (Fail bytes.now 0 (front_items airs)) }
+/// The version, and in format 2 the profile, and the offset after them.
+fn version(bytes: &[u8], form: Form) -> Result<(Profile, usize), TabErr>
+    requires { 4 ≤ length bytes.now }
+    ensures profile { IfOk result (λ r. r.0 ≡ promised_profile bytes.now form) }
+    ensures next { IfOk result (λ r. r.1 ≡ version_end form) }
+    ensures pass { IfOk result (λ r. Pass bytes.now 4 (version_items form) r.1) }
+    ensures fail { IfErr result (Fail bytes.now 4 (version_items form)) }
 {
-    expect(bytes, 0, MAGIC, TabKind::BadMagic, 0)?;
-    expect(bytes, 4, VERSION, TabKind::BadVersion, 0)?;
-    expect(bytes, 8, airs, TabKind::BadAir, 0)?;
-    Ok(())
+    match form {
+        Form::Plain | Form::One => {
+            expect(bytes, 4, ONE as u64, TabKind::BadVersion, 0)?;
+            Ok((Profile::Small, 8))
+        }
+        Form::Two => {
+            expect(bytes, 4, TWO as u64, TabKind::BadVersion, 0)?;
+            Ok((profile_at(bytes, 8)?, 12))
+        }
+    }
+}
+
+/// The magic, the version and profile, and the number of airs, and the offset after them.
+fn front(bytes: &[u8], form: Form, airs: u64) -> Result<(Profile, usize), TabErr>
+    ensures bits { IfOk result (λ _. airs < 2 ^ 32) }
+    ensures profile { IfOk result (λ r. r.0 ≡ promised_profile bytes.now form) }
+    ensures next { IfOk result (λ r. r.1 ≡ front_end form) }
+    ensures pass { IfOk result (λ r. Pass bytes.now 0 (front_items form airs) r.1) }
+    ensures fail { IfErr result (Fail bytes.now 0 (front_items form airs)) }
+{
+    expect(bytes, 0, MAGIC as u64, TabKind::BadMagic, 0)?;
+    let (profile, at) = version(bytes, form)?;
+    expect(bytes, at, airs, TabKind::BadAir, 0)?;
+    Ok((profile, at + 4))
+}
+
+/// The airs of a shape in a profile.
+fn airs_in(alloc: Global, shape: &Shape, profile: Profile) -> Result<Vec<AirShape>, AllocError>
+    ensures { IfOk result (λ v. v.items ≡ in_profile profile shape.now.airs) }
+{
+    let mut airs = Vec::from_slice(alloc, shape.airs.as_slice())?;
+    if profile == Profile::Wide && !airs.is_empty() {
+        airs[0] = airs[0].widened();
+    }
+    Ok(airs)
 }
 
 /// How many instances of each air there are, and the offset after these numbers.
-fn counts(alloc: Global, bytes: &[u8], shape: &Shape) -> Result<(Vec<u32>, usize), TabErr>
-    requires { 12 ≤ length bytes.now }
-    ensures values { IfOk result (λ r. r.0.items ≡ promised_counts bytes.now shape.now) }
-    ensures next { IfOk result (λ r. r.1 ≡ 12 + 4 * length shape.now.airs) }
-    ensures pass { IfOk result (λ r. Pass bytes.now 12 (count_items shape.now.machine 0 shape.now.airs) r.1) }
-    ensures fail { IfErr result (Fail bytes.now 12 (count_items shape.now.machine 0 shape.now.airs)) }
+fn counts(
+    alloc: Global,
+    bytes: &[u8],
+    start: usize,
+    machine: bool,
+    airs: &[AirShape],
+) -> Result<(Vec<u32>, usize), TabErr>
+    requires { start ≤ length bytes.now }
+    ensures values { IfOk result (λ r. r.0.items ≡ numbers_from w32 bytes.now start (length airs.now)) }
+    ensures next { IfOk result (λ r. r.1 ≡ start + 4 * length airs.now) }
+    ensures pass { IfOk result (λ r. Pass bytes.now start (count_items machine 0 airs.now) r.1) }
+    ensures fail { IfErr result (Fail bytes.now start (count_items machine 0 airs.now)) }
 {
-    let airs = shape.airs.as_slice();
     let mut counts = Vec::new(alloc);
-    let mut at = 12;
+    let mut at = start;
     for (air, form) in airs.iter().enumerate() {
-        counts.push(count_at(bytes, at, shape.machine, air, form)?)?;
+        counts.push(count_at(bytes, at, machine, air, form)?)?;
         at += 4;
     }
     Ok((counts, at))
@@ -181,15 +215,20 @@ fn tables(
     Ok((tables, at))
 }
 
-/// All items of a file.
-fn whole(alloc: Global, bytes: &[u8], shape: &Shape) -> Result<Tables, TabErr>
-    ensures ok { IfOk result (λ _. first_failure bytes.now 0 (items bytes.now shape.now) ≡ None) }
-    ensures tables { IfOk result (λ t. t ≡ promised_tables bytes.now shape.now) }
-    ensures err { IfErr result (λ e. e.kind ≢ NoMemory → TabFails bytes.now shape.now e.kind e.at) }
+/// All items from the numbers of instances on.
+fn body(
+    alloc: Global,
+    bytes: &[u8],
+    start: usize,
+    machine: bool,
+    airs: &[AirShape],
+) -> Result<Tables, TabErr>
+    requires { start ≤ length bytes.now }
+    ensures ok { IfOk result (λ _. first_failure bytes.now start (body_items machine airs.now (numbers_from w32 bytes.now start (length airs.now))) ≡ None) }
+    ensures tables { IfOk result (λ t. t ≡ body_tables bytes.now start airs.now (numbers_from w32 bytes.now start (length airs.now))) }
+    ensures err { IfErr result (λ e. e ≢ out_of_memory → first_failure bytes.now start (body_items machine airs.now (numbers_from w32 bytes.now start (length airs.now))) ≡ Some e) }
 {
-    let airs = shape.airs.as_slice();
-    front(bytes, airs.len() as u64)?;
-    let (counts, at) = counts(alloc, bytes, shape)?;
+    let (counts, at) = counts(alloc, bytes, start, machine, airs)?;
     let (tables, end) = tables(alloc, bytes, at, airs, &counts)?;
     if end < bytes.len() {
         return Err(fault(TabKind::Trailing, end));
@@ -197,20 +236,33 @@ fn whole(alloc: Global, bytes: &[u8], shape: &Shape) -> Result<Tables, TabErr>
     Ok(tables)
 }
 
+/// All items of a file.
+fn whole(alloc: Global, bytes: &[u8], shape: &Shape) -> Result<Witness, TabErr>
+    ensures ok { IfOk result (λ _. first_failure bytes.now 0 (items bytes.now shape.now) ≡ None) }
+    ensures witness { IfOk result (λ w. w ≡ promised bytes.now shape.now) }
+    ensures err { IfErr result (λ e. e ≢ out_of_memory → TabFails bytes.now shape.now e.kind e.at) }
+{
+    let (profile, start) = front(bytes, shape.form, shape.airs.len() as u64)?;
+    let airs = airs_in(alloc, shape, profile)?;
+    let tables = body(alloc, bytes, start, shape.form.is_machine(), &airs)?;
+    Ok(Witness { profile, tables })
+}
+
 /// The witness that the bytes spell under a shape.
 ///
 /// # Errors
 ///
-/// The first item in the order of the file that fails, as [`TabKind`] says, or `NoMemory`.
+/// The first item in the order of the file that fails, as [`TabKind`] says, or `NoMemory` at offset 0.
 pub fn read(alloc: Global, bytes: &[u8], shape: &Shape) -> Result<Witness, TabErr>
     // What is read has the shape, and the bytes are its text.
-    ensures reads { IfOk result (λ w. TabReads bytes.now shape.now w.tables) }
+    ensures reads { IfOk result (TabReads bytes.now shape.now) }
     // What has the shape and is spelled so is read, unless memory runs out.
-    ensures only { (tables : List Table) → TabReads bytes.now shape.now tables → MatchResult result (λ w. w.tables ≡ tables) (λ e. e.kind ≡ NoMemory) }
+    ensures only { (witness : Witness) → TabReads bytes.now shape.now witness → MatchResult result (λ w. w ≡ witness) (λ e. e.kind ≡ NoMemory) }
     // Which item fails.
     ensures fails { IfErr result (λ e. e.kind ≢ NoMemory → TabFails bytes.now shape.now e.kind e.at) }
+    // Want of memory has no place in the file.
+    ensures memory { IfErr result (λ e. e.kind ≡ NoMemory → e.at ≡ 0) }
 {
-    Ok(Witness {
-        tables: whole(alloc, bytes, shape)?,
-    })
+    let witness = whole(alloc, bytes, shape)?;
+    Ok(witness)
 }

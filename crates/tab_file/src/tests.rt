@@ -1,11 +1,9 @@
 //! Files by hand, and what they read as.
-ghost use Rattle.std.specs.Prelude.{◌≡◌, IfOk};
-ghost use Rattle.tab_file.specs.Machine.{IsMachineForm};
-
 use super::*;
-use gold::{AirShape, Sequence, Shape};
+use gold::{AirShape, Form, Profile, Sequence, Shape};
 use std::alloc::{AllocError, Global};
 use std::test::*;
+use zk_layout::machine_shape;
 
 /// One air of three rows and one column, with the values 0, 1 and 2.
 const SMALL: [u8; 56] = [
@@ -13,20 +11,16 @@ const SMALL: [u8; 56] = [
     3, 0, 0, 0, 0, 0, 0, 0, 0, 0, 0, 0, 1, 0, 0, 0, 0, 0, 0, 0, 2, 0, 0, 0, 0, 0, 0, 0,
 ];
 
-fn shape_of(alloc: Global, airs: &[AirShape], machine: bool) -> Result<Shape, AllocError>
-    ensures { IfOk result (λ s. (s.airs ≡ airs.now) × (s.machine ≡ machine)) }
-{
-    let airs = Sequence::from_vec(Vec::from_slice(alloc, airs)?);
-    Ok(Shape { airs, machine })
-}
-
 fn small_shape(alloc: Global) -> Result<Shape, AllocError> {
     let air = AirShape {
         rows: 3,
         columns: 1,
         most: 1048576,
     };
-    shape_of(alloc, &[air], false)
+    Ok(Shape {
+        airs: Sequence::from_vec(Vec::from_slice(alloc, &[air])?),
+        form: Form::Plain,
+    })
 }
 
 /// How the small file fails with one byte changed.
@@ -48,6 +42,7 @@ fn three_values(rt: HostRuntime) -> Result<(), Fail> {
     let witness = read(rt.alloc(), &SMALL, &shape)
         .ok()
         .ok_or("the bytes are a file")?;
+    assert_eq!(rt; witness.profile, Profile::Small);
     assert_eq!(rt; witness.tables.len(), 1);
     for table in witness.tables.as_slice() {
         assert_eq!(rt; table.air, 0);
@@ -115,60 +110,91 @@ fn byte_after_the_end(rt: HostRuntime) -> Result<(), Fail> {
     Ok(())
 }
 
-/// Seven airs of one column and one row each.
-fn machine_shape(alloc: Global) -> Result<Shape, AllocError>
-    ensures { IfOk result IsMachineForm }
-{
-    let air = AirShape {
-        rows: 1,
-        columns: 1,
-        most: 4294967295,
-    };
-    shape_of(alloc, &[air; 7], true)
+fn put(file: &mut Vec<u8>, numbers: &[u32]) -> Result<(), AllocError> {
+    for n in numbers {
+        file.extend_from_slice(&n.to_le_bytes())?;
+    }
+    Ok(())
 }
 
-/// A machine's header with these counts of Main and Out, and what 100 bytes have room for.
-fn headed(alloc: Global, main: u32, out: u32) -> Result<Option<TabErr>, AllocError> {
-    let mut bytes = [0u8; 100];
-    bytes[..4].copy_from_slice(b"ZKWT");
-    bytes[4] = 1;
-    bytes[8] = 7;
-    bytes[12..16].copy_from_slice(&main.to_le_bytes());
-    bytes[36..40].copy_from_slice(&out.to_le_bytes());
-    bytes[48] = 1;
-    bytes[52] = 1;
-    Ok(read(alloc, &bytes, &machine_shape(alloc)?).err())
+/// The first instance of an air, of zeros.
+fn put_zeros(file: &mut Vec<u8>, air: u32, columns: u32, rows: u32) -> Result<(), AllocError> {
+    put(file, &[air, 0, columns, rows])?;
+    for _ in 0..columns {
+        for _ in 0..rows {
+            file.extend_from_slice(&[0; 8])?;
+        }
+    }
+    Ok(())
+}
+
+/// A machine's file in format 2 with one instance of Main, Mem, Binary and Out each, all of zeros.
+fn machine_file(alloc: Global, profile: u32, main_rows: u32) -> Result<Vec<u8>, AllocError> {
+    let mut file = Vec::from_slice(alloc, b"ZKWT")?;
+    put(&mut file, &[2, profile, 7, 1, 1, 1, 0, 0, 0, 1])?;
+    put_zeros(&mut file, 0, 37, main_rows)?;
+    put_zeros(&mut file, 1, 15, 8192)?;
+    put_zeros(&mut file, 2, 57, 4096)?;
+    put_zeros(&mut file, 6, 2, 64)?;
+    Ok(file)
+}
+
+/// The file of what a machine's file reads as, if it does.
+fn written_again(alloc: Global, file: &[u8]) -> Result<Option<Vec<u8>>, AllocError> {
+    let shape = machine_shape(alloc, Form::Two)?;
+    match read(alloc, file, &shape) {
+        Ok(witness) => Ok(Some(write(alloc, &witness)?)),
+        Err(_) => Ok(None),
+    }
+}
+
+#[test]
+fn machine_files_in_both_profiles(rt: HostRuntime) -> Result<(), Fail> {
+    for (profile, main_rows, len) in [(1, 4096, 4_064_364), (2, 16_384, 7_701_612)] {
+        let file = machine_file(rt.alloc(), profile, main_rows)?;
+        assert_eq!(rt; file.len(), len);
+        match written_again(rt.alloc(), &file)? {
+            Some(written) => assert_eq!(rt; written.as_slice(), file.as_slice()),
+            None => panic!(rt; "the bytes are a file"),
+        }
+    }
+    Ok(())
+}
+
+/// How a file fails that has these numbers after its magic, under the machine's shape of a form.
+fn headed(alloc: Global, form: Form, numbers: &[u32]) -> Result<Option<TabErr>, AllocError> {
+    let mut file = Vec::from_slice(alloc, b"ZKWT")?;
+    put(&mut file, numbers)?;
+    let shape = match form {
+        Form::Plain => small_shape(alloc)?,
+        Form::One => machine_shape(alloc, Form::One)?,
+        Form::Two => machine_shape(alloc, Form::Two)?,
+    };
+    Ok(read(alloc, &file, &shape).err())
 }
 
 #[test]
 fn machine_headers(rt: HostRuntime) -> Result<(), Fail> {
-    assert_eq!(rt; headed(rt.alloc(), 0, 1)?, fails(TabKind::NoMain, 12));
-    assert_eq!(rt; headed(rt.alloc(), 1, 2)?, fails(TabKind::NotOneOut, 36));
-    assert_eq!(rt; headed(rt.alloc(), 1, 0)?, fails(TabKind::NotOneOut, 36));
-    // 2^32 - 1 instances are promised, of which the bytes hold one and a part of the next.
+    let one = |numbers: &[u32]| headed(rt.alloc(), Form::One, numbers);
+    let two = |numbers: &[u32]| headed(rt.alloc(), Form::Two, numbers);
+    assert_eq!(rt; one(&[2])?, fails(TabKind::BadVersion, 4));
+    assert_eq!(rt; one(&[1, 6])?, fails(TabKind::BadAir, 8));
+    assert_eq!(rt; one(&[1, 7, 0])?, fails(TabKind::NoMain, 12));
     assert_eq!(rt;
-        headed(rt.alloc(), 4294967295, 1)?,
-        fails(TabKind::BadOrder, 64)
+        one(&[1, 7, 1, 0, 0, 0, 0, 0, 2])?,
+        fails(TabKind::NotOneOut, 36)
     );
-    Ok(())
-}
-
-/// A machine's file of seven airs of one column and one row, with an instance of Main and one of Out.
-const MACHINE: [u8; 88] = [
-    0x5a, 0x4b, 0x57, 0x54, 1, 0, 0, 0, 7, 0, 0, 0, 1, 0, 0, 0, 0, 0, 0, 0, 0, 0, 0, 0, 0, 0, 0, 0,
-    0, 0, 0, 0, 0, 0, 0, 0, 1, 0, 0, 0, 0, 0, 0, 0, 0, 0, 0, 0, 1, 0, 0, 0, 1, 0, 0, 0, 5, 0, 0, 0,
-    0, 0, 0, 0, 6, 0, 0, 0, 0, 0, 0, 0, 1, 0, 0, 0, 1, 0, 0, 0, 1, 2, 3, 4, 0, 0, 0, 0,
-];
-
-#[test]
-fn written_again(rt: HostRuntime) -> Result<(), Fail> {
-    let shape = machine_shape(rt.alloc())?;
-    match read(rt.alloc(), &MACHINE, &shape) {
-        Ok(witness) => {
-            let bytes = write(rt.alloc(), &witness)?;
-            assert_eq!(rt; bytes.as_slice(), MACHINE.as_slice());
-        }
-        Err(_) => panic!(rt; "the bytes are a file"),
-    }
+    assert_eq!(rt; two(&[1])?, fails(TabKind::BadVersion, 4));
+    assert_eq!(rt; two(&[2])?, fails(TabKind::Short, 8));
+    assert_eq!(rt; two(&[2, 3])?, fails(TabKind::BadProfile, 8));
+    assert_eq!(rt; two(&[2, 1, 6])?, fails(TabKind::BadAir, 12));
+    assert_eq!(rt; two(&[2, 1, 7, 1_048_577])?, fails(TabKind::TooMany, 16));
+    assert_eq!(rt; two(&[2, 2, 7, 262_144])?, fails(TabKind::Short, 20));
+    assert_eq!(rt; two(&[2, 2, 7, 262_145])?, fails(TabKind::TooMany, 16));
+    // Main has Wide's rows in profile Wide.
+    assert_eq!(rt;
+        two(&[2, 2, 7, 1, 0, 0, 0, 0, 0, 1, 0, 0, 37, 4096])?,
+        fails(TabKind::BadShape, 56)
+    );
     Ok(())
 }

@@ -1,18 +1,30 @@
-//! Writing the tables of a machine.
-ghost use Rattle.std.specs.Prelude.{◌≡◌, ℕ, ◌<◌, ◌^◌, ◌==◌, ◌++◌, length, count_by, codes, IfOk, OnOk};
+//! Writing the tables of a machine in format 2.
+ghost use Rattle.std.specs.Prelude.{◌≡◌, ℕ, ◌<◌, ◌^◌, ◌==◌, ◌++◌, length, count_by, IfOk, OnOk};
 ghost use Rattle.std.specs.List.{flat_map};
-ghost use Rattle.gold.specs.declared.shapes.Shape.{Shape};
-ghost use Rattle.gold.specs.Shapes.{counts_from};
-ghost use Rattle.tab_file.specs.Format.{number, value, header, instance_text};
-ghost use Rattle.gold.specs.Shapes.{HaveShape};
-ghost use Rattle.tab_file.specs.Machine.{IsMachineForm, HaveMachineShape, height, machine_text};
+ghost use Rattle.gold.specs.Shapes.{counts_from, HaveShape};
+ghost use Rattle.zk_layout.specs.Air.{machine_shape_of};
+ghost use Rattle.tab_file.specs.Format.{number, value, profile_number, header, instance_text, text};
 ghost use Rattle.tab_file.specs.Reading.{TabReads};
+ghost use Rattle.tab_file.specs.Steps.{height};
+ghost use Rattle.gold.specs.declared.shapes.Form.TheVariants.{Two};
 
-use gold::{Column, Table, Witness};
+use crate::numbers::{MAGIC, SMALL, TWO, WIDE};
+use gold::{Column, Profile, Table, Witness};
 use std::alloc::{AllocError, Global};
+use zk_layout::Air;
 
 /// The number of airs of a machine.
-const AIRS: u32 = 7;
+const AIRS: u32 = Air::ALL.len() as u32;
+
+/// A profile in format 2.
+fn profile_number(profile: Profile) -> u32
+    ensures { result ≡ profile_number profile }
+{
+    match profile {
+        Profile::Small => SMALL,
+        Profile::Wide => WIDE,
+    }
+}
 
 fn put_number(out: &mut Vec<u8>, n: u32) -> Result<(), AllocError>
     ensures { OnOk result (out.new.items ≡ out.old.items ++ number n) }
@@ -68,33 +80,34 @@ fn count(tables: &[Table], air: u32) -> usize
     tables.iter().filter(|t| t.air == air).count()
 }
 
-fn put_header(out: &mut Vec<u8>, tables: &[Table]) -> Result<(), AllocError>
-    requires { (air : ℕ) → air < 7 → count_by (λ t. t.air == air) tables.now < 2 ^ 32 }
-    ensures { OnOk result (out.new.items ≡ out.old.items ++ header 7 (counts_from 0 7 tables.now)) }
+fn put_header(out: &mut Vec<u8>, witness: &Witness) -> Result<(), AllocError>
+    requires { (air : ℕ) → air < 7 → count_by (λ t. t.air == air) witness.now.tables < 2 ^ 32 }
+    ensures { OnOk result (out.new.items ≡ out.old.items ++ header Two witness.now.profile 7 (counts_from 0 7 witness.now.tables)) }
 {
-    out.extend_from_slice(b"ZKWT")?;
-    put_number(out, 1)?;
+    put_number(out, MAGIC)?;
+    put_number(out, TWO)?;
+    put_number(out, profile_number(witness.profile))?;
     put_number(out, AIRS)?;
     for air in 0..AIRS {
-        put_number(out, count(tables, air) as u32)?;
+        put_number(out, count(witness.tables.as_slice(), air) as u32)?;
     }
     Ok(())
 }
 
-/// The file of a machine's tables, in format 1.
+/// The file of a machine's tables: format 2, in their profile.
 ///
 /// # Errors
 ///
 /// Memory ran out.
 pub fn write(alloc: Global, witness: &Witness) -> Result<Vec<u8>, AllocError>
-    requires { HaveMachineShape witness.now.tables }
-    ensures text { IfOk result (λ v. v.items ≡ machine_text witness.now.tables) }
-    // It reads as these tables, under each machine's shape that they have.
-    ensures reads { IfOk result (λ v. (shape : Shape) → IsMachineForm shape → HaveShape shape witness.now.tables → TabReads v.items shape witness.now.tables) }
+    requires { HaveShape (machine_shape_of Two) witness.now }
+    ensures text { IfOk result (λ v. v.items ≡ text (machine_shape_of Two) witness.now) }
+    // It reads as these tables.
+    ensures reads { IfOk result (λ v. TabReads v.items (machine_shape_of Two) witness.now) }
 {
     let tables = witness.tables.as_slice();
     let mut out = Vec::new(alloc);
-    put_header(&mut out, tables)?;
+    put_header(&mut out, witness)?;
     for table in tables {
         put_table(&mut out, table)?;
     }

@@ -6,8 +6,13 @@ use Rattle.std.proofs.Math.Nat.{mul-le-mul_right}
 use Rattle.std.proofs.lemmas.List.{length-map}
 use Rattle.gold.specs.declared.instances.Table.{Table}
 use Rattle.gold.specs.declared.shapes.AirShape.{AirShape}
+use Rattle.gold.specs.declared.instances.Witness.{Witness}
+use Rattle.gold.specs.declared.shapes.Form.{Form}
+use Rattle.gold.specs.declared.shapes.Form.TheVariants.{Plain, One, Two}
+use Rattle.gold.specs.declared.shapes.Profile.{Profile}
+use Rattle.gold.specs.declared.shapes.Profile.TheVariants.{Small}
 use Rattle.gold.specs.declared.shapes.Shape.{Shape}
-use Rattle.gold.specs.Shapes.{AreCounts, IsCount, counts_from, HaveShape}
+use Rattle.gold.specs.Shapes.{AreCounts, IsCount, IsProfileOf, is_machine, in_profile, airs_of, counts_from, HaveShape}
 use Rattle.pil_ast.specs.Term.{Namespace, space_at, width}
 use Rattle.pil_ast.specs.Columns.{Fits}
 use Rattle.pil_ast.specs.Shape.{air_shape}
@@ -57,15 +62,26 @@ few ns machine tables s flag lt h =
     let inside : s < length (map air_shape ns) = subst (λ (m : ℕ). s < m) (sym (length-map ns air_shape)) lt in
     subst (λ (m : ℕ). instances_of tables s ≤ m) (most_same ns s lt) (within machine (map air_shape ns) tables 0 s s flag (omega arith) inside h)
 
-pub fitting : (ns : List Namespace) (shape : Shape) (tables : List Table) → IsSound ns → shape.airs ≡ map air_shape ns
-    → shape.machine ≡ false → HaveShape shape tables → Fits ns (values_of shape tables)
-fitting ns shape tables sound airs flag h =
-    let counted : AreCounts shape.machine 0 (map air_shape ns) (counts_from 0 (length (map air_shape ns)) tables) =
-    subst (λ (fs : List AirShape). AreCounts shape.machine 0 fs (counts_from 0 (length fs) tables)) airs h.counted in
+-- tables of form Plain have profile Small
+plain_small : (form : Form) (profile : Profile) → form ≡ Plain → IsProfileOf form profile → profile ≡ Small
+plain_small Plain profile is h = h
+plain_small One profile is h = h
+plain_small Two profile is h = absurd cc
+
+pub fitting : (ns : List Namespace) (shape : Shape) (witness : Witness) → IsSound ns → shape.airs ≡ map air_shape ns
+    → shape.form ≡ Plain → HaveShape shape witness → Fits ns (values_of shape witness)
+fitting ns shape witness sound airs plain h =
+    let tables = witness.tables in
+    let machine = is_machine shape.form in
+    let flag : is_machine shape.form ≡ false = ap is_machine plain in
+    let same : airs_of shape witness ≡ map air_shape ns = ap (λ (p : Profile). in_profile p shape.airs) (plain_small shape.form witness.profile plain h.profile) ∙ airs in
+    let counted : AreCounts (is_machine shape.form) 0 (map air_shape ns) (counts_from 0 (length (map air_shape ns)) witness.tables) =
+    subst (λ (n : ℕ). AreCounts machine 0 (map air_shape ns) (counts_from 0 n tables)) (ap length airs)
+    (subst (λ (fs : List AirShape). AreCounts machine 0 fs (counts_from 0 (length shape.airs) tables)) same h.counted) in
     record {
       spaces = ap length airs ∙ length-map ns air_shape;
-      width = λ s lt. ap (λ (fs : List AirShape). width_of fs s) airs ∙ width_same ns s lt;
-      rows = λ s lt. ap (λ (fs : List AirShape). rows_of fs s) airs ∙ rows_same ns s lt;
-      instances = λ s lt. few_more (instances_of tables s) (few ns shape.machine tables s flag lt counted);
-      in_all = λ s lt. few_in_all (instances_of tables s) (space_at ns s).rows (few ns shape.machine tables s flag lt counted) (sound.spaces s lt).few_rows;
+      width = λ s lt. ap (λ (fs : List AirShape). width_of fs s) same ∙ width_same ns s lt;
+      rows = λ s lt. ap (λ (fs : List AirShape). rows_of fs s) same ∙ rows_same ns s lt;
+      instances = λ s lt. few_more (instances_of tables s) (few ns machine tables s flag lt counted);
+      in_all = λ s lt. few_in_all (instances_of tables s) (space_at ns s).rows (few ns machine tables s flag lt counted) (sound.spaces s lt).few_rows;
     }

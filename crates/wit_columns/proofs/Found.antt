@@ -5,9 +5,12 @@ use Rattle.std.specs.List.{find, prefix_len}
 use Rattle.std.proofs.lemmas.Bool.{eq-eqb, eqb-true}
 use Rattle.std.proofs.lemmas.Option.{get_or_from_slice_get, slice_get_within}
 use Rattle.gold.specs.declared.instances.Table.{Table}
+use Rattle.gold.specs.declared.instances.Witness.{Witness}
 use Rattle.gold.specs.declared.shapes.AirShape.{AirShape}
+use Rattle.gold.specs.declared.shapes.Profile.{Profile}
+use Rattle.gold.specs.declared.shapes.Profile.TheVariants.{Small, Wide}
 use Rattle.gold.specs.declared.shapes.Shape.{Shape}
-use Rattle.gold.specs.Shapes.{Place, Fill, AreCounts, HaveShape, instances_from, places_from, counts_from, counts_of}
+use Rattle.gold.specs.Shapes.{Place, Fill, AreCounts, HaveShape, is_machine, in_profile, airs_of, instances_from, places_from, counts_from, counts_of}
 use Rattle.wit_columns.specs.Values.{instances_of, width_of, rows_of, is_instance}
 use Rattle.wit_columns.specs.Index.{Shaped, IsIndexed, starts_from}
 
@@ -124,6 +127,13 @@ before-more [] (suc s) = refl
 before-more (c ∷ cs) zero = omega arith
 before-more (c ∷ cs) (suc s) = omega (arith, before-more cs s)
 
+-- ---- the airs of a profile
+
+length_in : (profile : Profile) (airs : List AirShape) → length (in_profile profile airs) ≡ length airs
+length_in Small airs = refl
+length_in Wide [] = refl
+length_in Wide (f ∷ fs) = refl
+
 -- ---- the counts
 
 pub length-counts_from : (a n : ℕ) (ts : List Table) → length (counts_from a n ts) ≡ n
@@ -151,18 +161,23 @@ pub record Counted (tables : List Table) (starts : List ℕ) (s : ℕ) : Type 0 
   pub count : get_or starts (s + 1) 0 ≡ get_or starts s 0 + instances_of tables s
   pub bits : instances_of tables s < 2 ^ 32
 
-counted_of : (shape : Shape) (tables : List Table) (s : ℕ) → HaveShape shape tables → s < length shape.airs → Counted tables (starts_from 0 (counts_of shape tables)) s
-counted_of shape tables s h lt =
-    let cs = counts_of shape tables in
-    let len : length (counts_of shape tables) ≡ length shape.airs = length-counts_from 0 (length shape.airs) tables in
+-- in each profile there are as many airs
+pub length-airs_of : (shape : Shape) (witness : Witness) → length (airs_of shape witness) ≡ length shape.airs
+length-airs_of shape witness = length_in witness.profile shape.airs
+
+counted_of : (shape : Shape) (witness : Witness) (s : ℕ) → HaveShape shape witness → s < length shape.airs → Counted witness.tables (starts_from 0 (counts_of shape witness)) s
+counted_of shape witness s h lt =
+    let tables = witness.tables in
+    let cs = counts_of shape witness in
+    let len : length (counts_of shape witness) ≡ length shape.airs = length-counts_from 0 (length shape.airs) tables in
     let z : s ≡ 0 + s = omega arith in
     let next : suc s ≡ s + 1 = omega arith in
-    let own : get_or (counts_of shape tables) s 0 ≡ instances_of tables s = counts_at 0 (length shape.airs) tables s s z lt in
-    let here : get_or (starts_from 0 (counts_of shape tables)) s 0 ≡ 0 + before (counts_of shape tables) s = starts_at 0 cs s (omega (arith, len, lt)) in
-    let there : get_or (starts_from 0 (counts_of shape tables)) (suc s) 0 ≡ 0 + before (counts_of shape tables) (suc s) = starts_at 0 cs (suc s) (omega (arith, len, lt)) in
-    let low : get_or (counts_of shape tables) s 0 < 2 ^ 32 = count_bits shape.machine shape.airs cs 0 s lt h.counted in
-    let whole : length (starts_from 0 (counts_of shape tables)) ≡ suc (length (counts_of shape tables)) = length-starts_from 0 cs in
-    let one : get_or (starts_from 0 (counts_of shape tables)) (suc s) 0 ≡ get_or (starts_from 0 (counts_of shape tables)) s 0 + instances_of tables s
+    let own : get_or (counts_of shape witness) s 0 ≡ instances_of witness.tables s = counts_at 0 (length shape.airs) tables s s z lt in
+    let here : get_or (starts_from 0 (counts_of shape witness)) s 0 ≡ 0 + before (counts_of shape witness) s = starts_at 0 cs s (omega (arith, len, lt)) in
+    let there : get_or (starts_from 0 (counts_of shape witness)) (suc s) 0 ≡ 0 + before (counts_of shape witness) (suc s) = starts_at 0 cs (suc s) (omega (arith, len, lt)) in
+    let low : get_or (counts_of shape witness) s 0 < 2 ^ 32 = count_bits (is_machine shape.form) (airs_of shape witness) cs 0 s (omega (arith, lt, length-airs_of shape witness)) h.counted in
+    let whole : length (starts_from 0 (counts_of shape witness)) ≡ suc (length (counts_of shape witness)) = length-starts_from 0 cs in
+    let one : get_or (starts_from 0 (counts_of shape witness)) (suc s) 0 ≡ get_or (starts_from 0 (counts_of shape witness)) s 0 + instances_of witness.tables s
     = omega (arith, here, there, own, before-more cs s) in
     record {
       inside = omega (arith, whole, len, lt);
@@ -170,22 +185,25 @@ counted_of shape tables s h lt =
       bits = subst (λ (n : ℕ). n < 2 ^ 32) own low;
     }
 
-pub counted : (shape : Shape) (tables : List Table) (starts : List ℕ) (s : ℕ) → IsIndexed shape tables starts → s < length shape.airs → Counted tables starts s
-counted shape tables starts s h lt = subst (λ (ns : List ℕ). Counted tables ns s) (sym h.begin) (counted_of shape tables s h.shaped lt)
+pub counted : (shape : Shape) (witness : Witness) (starts : List ℕ) (s : ℕ) → IsIndexed shape witness starts → s < length shape.airs → Counted witness.tables starts s
+counted shape witness starts s h lt = subst (λ (ns : List ℕ). Counted witness.tables ns s) (sym h.begin) (counted_of shape witness s h.shaped lt)
 
 -- the table of an instance of the air s stands so far behind the place of the air
-pub stands : (shape : Shape) (tables : List Table) (starts : List ℕ) (s i : ℕ) → IsIndexed shape tables starts → s < length shape.airs → i < instances_of tables s
-    → Stands tables (get_or starts s 0 + i) s i (width_of shape.airs s) (rows_of shape.airs s)
-stands shape tables starts s i h lt within =
-    let cs = counts_of shape tables in
-    let len : length (counts_of shape tables) ≡ length shape.airs = length-counts_from 0 (length shape.airs) tables in
+pub stands : (shape : Shape) (witness : Witness) (starts : List ℕ) (s i : ℕ) → IsIndexed shape witness starts → s < length shape.airs → i < instances_of witness.tables s
+    → Stands witness.tables (get_or starts s 0 + i) s i (width_of (airs_of shape witness) s) (rows_of (airs_of shape witness) s)
+stands shape witness starts s i h lt within =
+    let tables = witness.tables in
+    let fs = airs_of shape witness in
+    let cs = counts_of shape witness in
+    let len : length (counts_of shape witness) ≡ length shape.airs = length-counts_from 0 (length shape.airs) tables in
     let z : s ≡ 0 + s = omega arith in
-    let own : get_or (counts_of shape tables) s 0 ≡ instances_of tables s = counts_at 0 (length shape.airs) tables s s z lt in
-    let here : get_or (starts_from 0 (counts_of shape tables)) s 0 ≡ 0 + before (counts_of shape tables) s = starts_at 0 cs s (omega (arith, len, lt)) in
-    let at : before (counts_of shape tables) s + i ≡ get_or (starts_from 0 (counts_of shape tables)) s 0 + i = omega (arith, here) in
-    let found = placed shape.airs cs 0 tables s i s z lt (subst (λ (n : ℕ). i < n) (sym own) within) h.shaped.filled in
-    subst (λ (ns : List ℕ). Stands tables (get_or ns s 0 + i) s i (width_of shape.airs s) (rows_of shape.airs s)) (sym h.begin)
-    (subst (λ (m : ℕ). Stands tables m s i (width_of shape.airs s) (rows_of shape.airs s)) at found)
+    let own : get_or (counts_of shape witness) s 0 ≡ instances_of witness.tables s = counts_at 0 (length shape.airs) tables s s z lt in
+    let here : get_or (starts_from 0 (counts_of shape witness)) s 0 ≡ 0 + before (counts_of shape witness) s = starts_at 0 cs s (omega (arith, len, lt)) in
+    let at : before (counts_of shape witness) s + i ≡ get_or (starts_from 0 (counts_of shape witness)) s 0 + i = omega (arith, here) in
+    let inside : s < length (airs_of shape witness) = omega (arith, lt, length-airs_of shape witness) in
+    let found = placed fs cs 0 tables s i s z inside (subst (λ (n : ℕ). i < n) (sym own) within) h.shaped.filled in
+    subst (λ (ns : List ℕ). Stands tables (get_or ns s 0 + i) s i (width_of fs s) (rows_of fs s)) (sym h.begin)
+    (subst (λ (m : ℕ). Stands tables m s i (width_of fs s) (rows_of fs s)) at found)
 
 -- ---- the tables of one air after the other
 
@@ -215,34 +233,36 @@ prefix_air a f c fs cs ts h =
 
 -- ---- the same of what a caller sees
 
-pub counted_seen : (shape : Shape) (tables : List Table) (seen : Shaped) (kept starts : List ℕ) (s : ℕ) → record { shape = shape; tables = tables } ≡ seen
-    → starts ≡ kept → IsIndexed shape tables kept → s < length seen.shape.airs → Counted seen.tables starts s
-counted_seen shape tables seen kept starts s view read h =
-    let same = subst (λ (ns : List ℕ). IsIndexed shape tables ns) (sym read) h in
-    subst (λ (v : Shaped). s < length v.shape.airs → Counted v.tables starts s) view (counted shape tables starts s same)
+pub counted_seen : (shape : Shape) (witness : Witness) (seen : Shaped) (kept starts : List ℕ) (s : ℕ) → record { shape = shape; witness = witness } ≡ seen
+    → starts ≡ kept → IsIndexed shape witness kept → s < length seen.shape.airs → Counted seen.witness.tables starts s
+counted_seen shape witness seen kept starts s view read h =
+    let same = subst (λ (ns : List ℕ). IsIndexed shape witness ns) (sym read) h in
+    subst (λ (v : Shaped). s < length v.shape.airs → Counted v.witness.tables starts s) view (counted shape witness starts s same)
 
 -- the table at the place j is the one that is found as the instance i of the air s, and is of the right size
 pub record Chosen (tables : List Table) (seen : Shaped) (j s i : ℕ) : Type 0 where
   pub inside : j < length tables
-  pub found : (d : Table) → find (is_instance s i) seen.tables ≡ Some (get_or tables j d)
-  pub columns : (d : Table) → length (get_or tables j d).columns ≡ width_of seen.shape.airs s
-  pub rows : (d : Table) → All (λ c. length c ≡ rows_of seen.shape.airs s) (get_or tables j d).columns
+  pub found : (d : Table) → find (is_instance s i) seen.witness.tables ≡ Some (get_or tables j d)
+  pub columns : (d : Table) → length (get_or tables j d).columns ≡ width_of (airs_of seen.shape seen.witness) s
+  pub rows : (d : Table) → All (λ c. length c ≡ rows_of (airs_of seen.shape seen.witness) s) (get_or tables j d).columns
 
-chosen : (shape : Shape) (tables : List Table) (j s i : ℕ) → Stands tables j s i (width_of shape.airs s) (rows_of shape.airs s)
-    → Chosen tables (record { shape = shape; tables = tables }) j s i
-chosen shape tables j s i h =
-    let is : (d : Table) → h.table ≡ get_or tables j d = λ d. sym (get_or_from_slice_get tables j h.table d h.got) in
+chosen : (shape : Shape) (witness : Witness) (j s i : ℕ) → Stands witness.tables j s i (width_of (airs_of shape witness) s) (rows_of (airs_of shape witness) s)
+    → Chosen witness.tables (record { shape = shape; witness = witness }) j s i
+chosen shape witness j s i h =
+    let tables = witness.tables in
+    let fs = airs_of shape witness in
+    let is : (d : Table) → h.table ≡ get_or witness.tables j d = λ d. sym (get_or_from_slice_get tables j h.table d h.got) in
     record {
       inside = slice_get_within tables j h.table h.got;
       found = λ d. h.found ∙ ap (λ (t : Table). Some t) (is d);
-      columns = λ d. subst (λ (t : Table). length t.columns ≡ width_of shape.airs s) (is d) h.columns;
-      rows = λ d. subst (λ (t : Table). All (λ c. length c ≡ rows_of shape.airs s) t.columns) (is d) h.rows;
+      columns = λ d. subst (λ (t : Table). length t.columns ≡ width_of fs s) (is d) h.columns;
+      rows = λ d. subst (λ (t : Table). All (λ c. length c ≡ rows_of fs s) t.columns) (is d) h.rows;
     }
 
-pub chosen_seen : (shape : Shape) (tables : List Table) (seen : Shaped) (kept starts : List ℕ) (s i : ℕ) → record { shape = shape; tables = tables } ≡ seen
-    → starts ≡ kept → IsIndexed shape tables kept → s < length seen.shape.airs → i < instances_of seen.tables s
-    → Chosen tables seen (get_or starts s 0 + i) s i
-chosen_seen shape tables seen kept starts s i view read h =
-    let same = subst (λ (ns : List ℕ). IsIndexed shape tables ns) (sym read) h in
-    subst (λ (v : Shaped). s < length v.shape.airs → i < instances_of v.tables s → Chosen tables v (get_or starts s 0 + i) s i)
-    view (λ lt within. chosen shape tables (get_or starts s 0 + i) s i (stands shape tables starts s i same lt within))
+pub chosen_seen : (shape : Shape) (witness : Witness) (seen : Shaped) (kept starts : List ℕ) (s i : ℕ) → record { shape = shape; witness = witness } ≡ seen
+    → starts ≡ kept → IsIndexed shape witness kept → s < length seen.shape.airs → i < instances_of seen.witness.tables s
+    → Chosen witness.tables seen (get_or starts s 0 + i) s i
+chosen_seen shape witness seen kept starts s i view read h =
+    let same = subst (λ (ns : List ℕ). IsIndexed shape witness ns) (sym read) h in
+    subst (λ (v : Shaped). s < length v.shape.airs → i < instances_of v.witness.tables s → Chosen witness.tables v (get_or starts s 0 + i) s i)
+    view (λ lt within. chosen shape witness (get_or starts s 0 + i) s i (stands shape witness starts s i same lt within))

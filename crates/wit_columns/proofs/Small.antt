@@ -1,8 +1,8 @@
 -- The tests' tables have their shapes.
-use Rattle.std.proofs.Common.{◌≡◌, ℕ, ◌+◌, ◌^◌, ◌<◌, ◌≤◌, List, [], ◌∷◌, All, refl, subst, sym, arith}
+use Rattle.std.proofs.Common.{◌≡◌, ℕ, ◌+◌, ◌^◌, ◌<◌, ◌≤◌, [], ◌∷◌, All, refl, subst, sym, arith}
 use Rattle.std.proofs.lemmas.List.Elements.{All-cons, All-nil}
 use Rattle.gold.specs.Field.{p, IsCanonical}
-use Rattle.gold.specs.declared.instances.Table.{Table}
+use Rattle.gold.specs.declared.instances.Witness.{Witness}
 use Rattle.gold.specs.declared.shapes.AirShape.{AirShape}
 use Rattle.gold.specs.declared.shapes.Shape.{Shape}
 use Rattle.gold.specs.Shapes.{HaveShape, Fits, IsCount}
@@ -47,6 +47,7 @@ some count f a le bits = record { main = λ e. not_main e; most = le; bits = bit
 
 three : HaveShape two_airs three_tables
 three = record {
+  profile = refl;
   bits = omega arith;
   counted = (some 2 wide_air 0 (omega arith) (omega arith), (some 1 narrow_air 1 (omega arith) (omega arith), tt));
   filled = (
@@ -57,6 +58,7 @@ three = record {
 
 both : HaveShape three_airs two_tables
 both = record {
+  profile = refl;
   bits = omega arith;
   counted = (
     some 1 wide_air 0 (omega arith) (omega arith),
@@ -65,8 +67,8 @@ both = record {
   filled = (wide_fits 0 0 1 (omega arith) (omega arith) (omega arith), (narrow_fits 2 9 (omega arith) (omega arith), tt));
 }
 
-pub three_shaped : (shape : Shape) (tables : List Table) → shape ≡ two_airs → tables ≡ three_tables → HaveShape shape tables
-three_shaped shape tables airs read = subst (λ (s : Shape). HaveShape s tables) (sym airs) (subst (λ (ts : List Table). HaveShape two_airs ts) (sym read) three)
+pub three_shaped : (shape : Shape) (witness : Witness) → shape ≡ two_airs → witness ≡ three_tables → HaveShape shape witness
+three_shaped shape witness airs read = subst (λ (s : Shape). HaveShape s witness) (sym airs) (subst (λ (w : Witness). HaveShape two_airs w) (sym read) three)
 
-pub two_shaped : (shape : Shape) (tables : List Table) → shape ≡ three_airs → tables ≡ two_tables → HaveShape shape tables
-two_shaped shape tables airs read = subst (λ (s : Shape). HaveShape s tables) (sym airs) (subst (λ (ts : List Table). HaveShape three_airs ts) (sym read) both)
+pub two_shaped : (shape : Shape) (witness : Witness) → shape ≡ three_airs → witness ≡ two_tables → HaveShape shape witness
+two_shaped shape witness airs read = subst (λ (s : Shape). HaveShape s witness) (sym airs) (subst (λ (w : Witness). HaveShape three_airs w) (sym read) both)

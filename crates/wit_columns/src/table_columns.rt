@@ -3,31 +3,33 @@ ghost use Rattle.std.specs.Prelude.{◌≡◌, ◌+◌, ◌<◌, ◌≤◌, ◌=
 ghost use Rattle.std.specs.List.{find, prefix_len};
 ghost use Rattle.gold.specs.Shapes.{HaveShape, counts_of};
 ghost use Rattle.wit_columns.specs.Values.{instances_of, width_of, rows_of, is_instance, values_of};
+ghost use Rattle.gold.specs.Shapes.{airs_of};
 ghost use Rattle.wit_columns.specs.Index.{starts_from};
 
-use gold::{Fe, Sequence, Shape, Table, Witness};
+use gold::{Fe, Profile, Sequence, Shape, Table, Witness};
 use pil_ast::Columns;
 use std::alloc::{AllocError, Global};
 use std::marker::Model;
 
 /// The tables of a witness, with the places at which each air's begin. A value is found in constant
-/// time. Contracts see it as the shape and the list of the tables.
+/// time. Contracts see it as the shape and the witness.
 #[derive(Drop)]
 pub struct TableColumns<'a> {
     shape: &'a Shape,
+    profile: Profile,
     tables: &'a [Table],
     /// Where the tables of each air begin, and where those of the last air end.
     starts: Sequence<usize>,
 }
 
 impl<'a> Model for TableColumns<'a> {
-    ghost use Rattle.wit_columns.specs.Index.{Shaped, IsIndexed};
+    ghost use Rattle.wit_columns.specs.Index.{Shaped, IsIndexed, witness_of};
 
     ghost Value = { Shaped };
 
-    ghost view = { λ c. record { shape = c.shape.now; tables = c.tables.now } };
+    ghost view = { λ c. record { shape = c.shape.now; witness = witness_of c.profile c.tables.now } };
 
-    ghost invariant = { λ c. IsIndexed c.shape.now c.tables.now c.starts };
+    ghost invariant = { λ c. IsIndexed c.shape.now (witness_of c.profile c.tables.now) c.starts };
 }
 
 /// Where the tables of an air end, which begin at a place.
@@ -43,10 +45,11 @@ fn end_of(tables: &[Table], start: usize, air: u32) -> usize
 }
 
 /// Where the tables of each air begin, and where those of the last air end.
-fn starts(alloc: Global, tables: &[Table], shape: &Shape) -> Result<Sequence<usize>, AllocError>
-    requires { HaveShape shape.now tables.now }
-    ensures { IfOk result (λ starts. starts ≡ starts_from 0 (counts_of shape.now tables.now)) }
+fn starts(alloc: Global, witness: &Witness, shape: &Shape) -> Result<Sequence<usize>, AllocError>
+    requires { HaveShape shape.now witness.now }
+    ensures { IfOk result (λ starts. starts ≡ starts_from 0 (counts_of shape.now witness.now)) }
 {
+    let tables = witness.tables.as_slice();
     let mut starts = Sequence::new(alloc);
     let mut start = 0;
     for air in 0..shape.airs.len() as u32 {
@@ -68,15 +71,15 @@ impl<'a> TableColumns<'a> {
         witness: &'a Witness,
         shape: &'a Shape,
     ) -> Result<TableColumns<'a>, AllocError>
-        requires { HaveShape shape.now witness.now.tables }
-        ensures same { IfOk result (λ columns. columns ≡ record { shape = shape.now; tables = witness.now.tables }) }
-        ensures values { IfOk result (λ columns. values_of columns.shape columns.tables ≡ values_of shape.now witness.now.tables) }
+        requires { HaveShape shape.now witness.now }
+        ensures same { IfOk result (λ columns. columns ≡ record { shape = shape.now; witness = witness.now }) }
+        ensures values { IfOk result (λ columns. values_of columns.shape columns.witness ≡ values_of shape.now witness.now) }
     {
-        let tables = witness.tables.as_slice();
-        let starts = starts(alloc, tables, shape)?;
+        let starts = starts(alloc, witness, shape)?;
         Ok(TableColumns {
             shape,
-            tables,
+            profile: witness.profile,
+            tables: witness.tables.as_slice(),
             starts,
         })
     }
@@ -85,7 +88,7 @@ impl<'a> TableColumns<'a> {
     #[inline]
     fn count(&self, air: u32) -> u32
         requires { air < length self.now.shape.airs }
-        ensures { result ≡ instances_of self.now.tables air }
+        ensures { result ≡ instances_of self.now.witness.tables air }
     {
         let starts = self.starts.as_slice();
         (starts[air as usize + 1] - starts[air as usize]) as u32
@@ -95,10 +98,10 @@ impl<'a> TableColumns<'a> {
     #[inline]
     fn table(&self, air: u32, instance: u32) -> &Table
         requires air { air < length self.now.shape.airs }
-        requires instance { instance < instances_of self.now.tables air }
-        ensures found { find (is_instance air instance) self.now.tables ≡ Some result.now }
-        ensures columns { length result.now.columns ≡ width_of self.now.shape.airs air }
-        ensures rows { All (λ c. length c ≡ rows_of self.now.shape.airs air) result.now.columns }
+        requires instance { instance < instances_of self.now.witness.tables air }
+        ensures found { find (is_instance air instance) self.now.witness.tables ≡ Some result.now }
+        ensures columns { length result.now.columns ≡ width_of (airs_of self.now.shape self.now.witness) air }
+        ensures rows { All (λ c. length c ≡ rows_of (airs_of self.now.shape self.now.witness) air) result.now.columns }
     {
         let starts = self.starts.as_slice();
         &self.tables[starts[air as usize] + instance as usize]
@@ -108,7 +111,7 @@ impl<'a> TableColumns<'a> {
 impl<'a> Columns for TableColumns<'a> {
     ghost use Rattle.wit_columns.specs.Values.{values_of};
 
-    ghost values = { λ c. values_of c.shape c.tables };
+    ghost values = { λ c. values_of c.shape c.witness };
 
     #[inline]
     fn instances(&self, space: u32) -> u32 {

@@ -1,9 +1,10 @@
 //! Small tables, and the values at their corners.
-ghost use Rattle.std.specs.Prelude.{◌≡◌, ◌<◌, IfOk, false};
+ghost use Rattle.std.specs.Prelude.{◌≡◌, ◌<◌, IfOk};
+ghost use Rattle.gold.specs.declared.shapes.Form.TheVariants.{Plain};
 ghost use Rattle.wit_columns.specs.Small.{wide, narrow, three_tables, two_airs, two_tables, three_airs};
 
 use super::*;
-use gold::{AirShape, Column, Fe, Sequence, Shape, Table, Tables, Witness};
+use gold::{AirShape, Column, Fe, Form, Profile, Sequence, Shape, Table, Tables, Witness};
 use pil_ast::Columns;
 use std::alloc::{AllocError, Global};
 use std::test::*;
@@ -21,12 +22,12 @@ const NARROW: AirShape = AirShape {
 };
 
 fn shape_of(alloc: Global, airs: &[AirShape]) -> Result<Shape, AllocError>
-    ensures { IfOk result (λ s. (s.airs ≡ airs.now) × (s.machine ≡ false)) }
+    ensures { IfOk result (λ s. (s.airs ≡ airs.now) × (s.form ≡ Plain)) }
 {
     let airs = Sequence::from_vec(Vec::from_slice(alloc, airs)?);
     Ok(Shape {
         airs,
-        machine: false,
+        form: Form::Plain,
     })
 }
 
@@ -67,22 +68,28 @@ fn narrow(alloc: Global, air: u32, n: u32) -> Result<Table, AllocError>
 }
 
 fn three_tables(alloc: Global) -> Result<Witness, AllocError>
-    ensures { IfOk result (λ w. w.tables ≡ three_tables) }
+    ensures { IfOk result (λ w. w ≡ three_tables) }
 {
     let mut tables = Tables::new(alloc);
     tables.push(wide(alloc, 0, 0, 1)?)?;
     tables.push(wide(alloc, 0, 1, 5)?)?;
     tables.push(narrow(alloc, 1, 9)?)?;
-    Ok(Witness { tables })
+    Ok(Witness {
+        profile: Profile::Small,
+        tables,
+    })
 }
 
 fn two_tables(alloc: Global) -> Result<Witness, AllocError>
-    ensures { IfOk result (λ w. w.tables ≡ two_tables) }
+    ensures { IfOk result (λ w. w ≡ two_tables) }
 {
     let mut tables = Tables::new(alloc);
     tables.push(wide(alloc, 0, 0, 1)?)?;
     tables.push(narrow(alloc, 2, 9)?)?;
-    Ok(Witness { tables })
+    Ok(Witness {
+        profile: Profile::Small,
+        tables,
+    })
 }
 
 fn two_airs(alloc: Global) -> Result<Shape, AllocError>
@@ -99,7 +106,7 @@ fn three_airs(alloc: Global) -> Result<Shape, AllocError>
 
 /// The values of the first instance's corners, of the second's, and of the second air's table.
 fn corners(columns: &TableColumns) -> [Fe; 6]
-    requires { columns.now ≡ record { shape = two_airs; tables = three_tables } }
+    requires { columns.now ≡ record { shape = two_airs; witness = three_tables } }
 {
     [
         columns.at(0, 0, 0, 0),

@@ -1,1 +1,2 @@
 pub mod Air
+pub mod Namespaces

@@ -1,7 +1,8 @@
 //! The airs.
 ghost use Rattle.std.specs.Prelude.{◌≡◌, ◌≤◌, ◌<◌};
-ghost use Rattle.zk_layout.specs.Air.{air_number, rows_per, air_of};
+ghost use Rattle.zk_layout.specs.Air.{air_number, rows_per, rows_in, columns_per, most_per, air_shape, air_of, airs};
 
+use gold::{AirShape, Profile, WIDE_MAIN_ROWS};
 use rv_word::OpNo;
 
 /// A kind of table. A run has some instances of each, all with the same number of rows.
@@ -11,7 +12,8 @@ pub enum Air {
     Main,
     /// A row is an access to memory or to a register.
     Mem,
-    /// A row is the operation of a step: a sum, difference, comparison or bitwise operation.
+    /// A row is the operation of a step: a sum, also with a shift, a difference, comparison, bitwise
+    /// operation or conditional zero.
     Binary,
     /// A row is the operation of a step: a shift.
     Shift,
@@ -24,6 +26,17 @@ pub enum Air {
 }
 
 impl Air {
+    /// The airs in the order of their numbers.
+    pub const ALL: [Air; 7] = [
+        Air::Main,
+        Air::Mem,
+        Air::Binary,
+        Air::Shift,
+        Air::Arith,
+        Air::Align,
+        Air::Out,
+    ];
+
     /// The air's number in a table file, from 0 for Main to 6 for Out.
     #[tactic(auto, unfolding(crate::specs::Air::air_number))]
     pub fn number(self) -> u32
@@ -41,7 +54,7 @@ impl Air {
         }
     }
 
-    /// The rows of one instance.
+    /// The rows of one instance in profile Small.
     #[tactic(auto, unfolding(crate::specs::Air::rows_per))]
     pub fn rows(self) -> u32
         ensures value { result ≡ rows_per self }
@@ -56,6 +69,56 @@ impl Air {
             Air::Arith => 1024,
             Air::Align => 2048,
             Air::Out => 64,
+        }
+    }
+
+    /// The rows of one instance in a profile.
+    pub fn rows_in(self, profile: Profile) -> u32
+        ensures { result ≡ rows_in profile self }
+    {
+        match (profile, self) {
+            (Profile::Wide, Air::Main) => WIDE_MAIN_ROWS,
+            _ => self.rows(),
+        }
+    }
+
+    /// The columns of one instance in a table file.
+    #[tactic(auto, unfolding(crate::specs::Air::columns_per))]
+    pub fn columns(self) -> u32
+        ensures { result ≡ columns_per self }
+    {
+        match self {
+            Air::Main => 37,
+            Air::Mem => 15,
+            Air::Binary => 57,
+            Air::Shift => 30,
+            Air::Arith => 79,
+            Air::Align => 38,
+            Air::Out => 2,
+        }
+    }
+
+    /// The most instances in profile Small.
+    #[tactic(auto, unfolding(crate::specs::Air::most_per))]
+    pub fn most(self) -> u32
+        ensures { result ≡ most_per self }
+    {
+        match self {
+            Air::Main | Air::Binary => 1 << 20,
+            Air::Mem | Air::Shift | Air::Arith => 1 << 22,
+            Air::Align => 1 << 21,
+            Air::Out => 1,
+        }
+    }
+
+    /// The air's rows, columns and most instances in profile Small.
+    pub fn shape(self) -> AirShape
+        ensures { result ≡ air_shape self }
+    {
+        AirShape {
+            rows: self.rows(),
+            columns: self.columns(),
+            most: self.most(),
         }
     }
 

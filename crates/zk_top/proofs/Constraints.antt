@@ -1,8 +1,10 @@
 -- The stages of `pil`, read against its outcome.
-use Rattle.std.proofs.Common.{◌≡◌, ◌≢◌, ◌⊎◌, inl, inr, ℕ, ◌≤◌, ◌^◌, Bool, false, List, [], ◌∷◌, ◌++◌, length, map, Option, Some, Ok, Err, refl, sym, ap, ◌∙◌, subst, arith}
+use Rattle.std.proofs.Common.{◌≡◌, ◌≢◌, ◌⊎◌, inl, inr, ℕ, ◌≤◌, ◌^◌, List, [], ◌∷◌, ◌++◌, length, map, Option, Some, Ok, Err, refl, sym, ap, ◌∙◌, subst, arith}
 use Rattle.host_io.specs.World.{World, Asked, Opened}
-use Rattle.gold.specs.declared.instances.Table.{Table}
+use Rattle.gold.specs.declared.instances.Witness.{Witness}
 use Rattle.gold.specs.declared.shapes.AirShape.{AirShape}
+use Rattle.gold.specs.declared.shapes.Form.{Form}
+use Rattle.gold.specs.declared.shapes.Form.TheVariants.{Plain}
 use Rattle.gold.specs.declared.shapes.Shape.{Shape}
 use Rattle.tab_file.specs.declared.fault.TabErr.{TabErr}
 use Rattle.tab_file.specs.declared.fault.TabKind.{TabKind}
@@ -50,19 +52,19 @@ unless_memory kinds.DoubleMark P other told = told
 same_failure : (k kind : TabKind) (n at : ℕ) → Some (failure k n) ≡ Some (failure kind at) → (k ≡ kind) × (n ≡ at)
 same_failure k kind n at e = let same : failure k n ≡ failure kind at = cc in (ap (λ (f : TabErr). f.kind) same, ap (λ (f : TabErr). f.at) same)
 
-pub only_failure : (file : List ℕ) (shape : Shape) (kind : TabKind) (at : ℕ) → ((tables : List Table) → TabReads file shape tables → ⊥) → TabFails file shape kind at → IsOnlyFailure file shape kind at
+pub only_failure : (file : List ℕ) (shape : Shape) (kind : TabKind) (at : ℕ) → ((witness : Witness) → TabReads file shape witness → ⊥) → TabFails file shape kind at → IsOnlyFailure file shape kind at
 only_failure file shape kind at never fails = (never, λ k n is. same_failure k kind n at (sym is ∙ fails))
 
-abbrev shaped : List AirShape → Bool → Shape
-shaped airs machine = record { airs = airs; machine = machine }
+abbrev shaped : List AirShape → Form → Shape
+shaped airs form = record { airs = airs; form = form }
 
-pub same_shape : (shape : Shape) (ns : List Namespace) → shape.airs ≡ map air_shape ns → shape.machine ≡ false → shape ≡ shape_of ns
-same_shape shape ns airs machine = ap (λ (a : List AirShape). shaped a shape.machine) airs ∙ ap (λ (m : Bool). shaped (map air_shape ns) m) machine
+pub same_shape : (shape : Shape) (ns : List Namespace) → shape.airs ≡ map air_shape ns → shape.form ≡ Plain → shape ≡ shape_of ns
+same_shape shape ns airs form = ap (λ (a : List AirShape). shaped a shape.form) airs ∙ ap (λ (f : Form). shaped (map air_shape ns) f) form
 
 -- what the tables come to under a text, where the file reads as them and as no others
-pub tables_on : (names : List Asked) (ns : List Namespace) (file : List ℕ) (tables : List Table) (o : Outcome) → IsOnlyTables file (shape_of ns) tables → OfTables names ns file o → OfLines names ns (values_of (shape_of ns) tables) o
-tables_on names ns file tables o only (inl p) = subst (λ (ts : List Table). OfLines names ns (values_of (shape_of ns) ts) o) (only.0 p.0 p.1) p.2
-tables_on names ns file tables o only (inr q) = absurd (only.1 q.0 q.1 q.2)
+pub tables_on : (names : List Asked) (ns : List Namespace) (file : List ℕ) (witness : Witness) (o : Outcome) → IsOnlyTables file (shape_of ns) witness → OfTables names ns file o → OfLines names ns (values_of (shape_of ns) witness) o
+tables_on names ns file witness o only (inl p) = subst (λ (w : Witness). OfLines names ns (values_of (shape_of ns) w) o) (only.0 p.0 p.1) p.2
+tables_on names ns file witness o only (inr q) = absurd (only.1 q.0 q.1 q.2)
 
 -- the names of an outcome that the tables decide
 lines_names : (names : List Asked) (ns : List Namespace) (c : Columns) (o : Outcome) → OfLines names ns c o → o.names ≡ names
@@ -88,19 +90,19 @@ refusal_comes ns file status (inr told) =
     (λ names o on. refused_so names ns file told.0 told.1 o told.3 on)
 
 -- the report of the lines under tables that the file alone reads as
-pub lines_come : (ns : List Namespace) (file : List ℕ) (tables : List Table) (result : _) → IsOnlyTables file (shape_of ns) tables → Comes (λ names. OfLines names ns (values_of (shape_of ns) tables)) result → Comes (λ names. OfTables names ns file) result
-lines_come ns file tables (Ok text) only comes = λ names o on. comes names o (tables_on names ns file tables o only on)
-lines_come ns file tables (Err statuses.HostFault) only comes = comes
-lines_come ns file tables (Err statuses.NoMemory) only comes = tt
-lines_come ns file tables (Err statuses.Done) only comes = λ names o on. comes names o (tables_on names ns file tables o only on)
-lines_come ns file tables (Err (statuses.Broken b)) only comes = λ names o on. comes names o (tables_on names ns file tables o only on)
-lines_come ns file tables (Err statuses.BadWords) only comes = λ names o on. comes names o (tables_on names ns file tables o only on)
-lines_come ns file tables (Err (statuses.BadElf e)) only comes = λ names o on. comes names o (tables_on names ns file tables o only on)
-lines_come ns file tables (Err (statuses.RunFault f)) only comes = λ names o on. comes names o (tables_on names ns file tables o only on)
-lines_come ns file tables (Err (statuses.StepLimit n)) only comes = λ names o on. comes names o (tables_on names ns file tables o only on)
-lines_come ns file tables (Err (statuses.BadTables e)) only comes = λ names o on. comes names o (tables_on names ns file tables o only on)
-lines_come ns file tables (Err (statuses.BadPil e)) only comes = λ names o on. comes names o (tables_on names ns file tables o only on)
-lines_come ns file tables (Err (statuses.TooLarge w)) only comes = λ names o on. comes names o (tables_on names ns file tables o only on)
+pub lines_come : (ns : List Namespace) (file : List ℕ) (witness : Witness) (result : _) → IsOnlyTables file (shape_of ns) witness → Comes (λ names. OfLines names ns (values_of (shape_of ns) witness)) result → Comes (λ names. OfTables names ns file) result
+lines_come ns file witness (Ok text) only comes = λ names o on. comes names o (tables_on names ns file witness o only on)
+lines_come ns file witness (Err statuses.HostFault) only comes = comes
+lines_come ns file witness (Err statuses.NoMemory) only comes = tt
+lines_come ns file witness (Err statuses.Done) only comes = λ names o on. comes names o (tables_on names ns file witness o only on)
+lines_come ns file witness (Err (statuses.Broken b)) only comes = λ names o on. comes names o (tables_on names ns file witness o only on)
+lines_come ns file witness (Err statuses.BadWords) only comes = λ names o on. comes names o (tables_on names ns file witness o only on)
+lines_come ns file witness (Err (statuses.BadElf e)) only comes = λ names o on. comes names o (tables_on names ns file witness o only on)
+lines_come ns file witness (Err (statuses.RunFault f)) only comes = λ names o on. comes names o (tables_on names ns file witness o only on)
+lines_come ns file witness (Err (statuses.StepLimit n)) only comes = λ names o on. comes names o (tables_on names ns file witness o only on)
+lines_come ns file witness (Err (statuses.BadTables e)) only comes = λ names o on. comes names o (tables_on names ns file witness o only on)
+lines_come ns file witness (Err (statuses.BadPil e)) only comes = λ names o on. comes names o (tables_on names ns file witness o only on)
+lines_come ns file witness (Err (statuses.TooLarge w)) only comes = λ names o on. comes names o (tables_on names ns file witness o only on)
 
 module _ (contents : Contents) (pil tables : List ℕ) where
   abbrev pub pair : List Asked

@@ -1,7 +1,7 @@
 -- One outcome of `pil`.
 use Rattle.std.proofs.Common.{◌≡◌, ◌⊎◌, inl, inr, ℕ, ◌<◌, ◌^◌, List, [], ◌∷◌, Some, slice_index, refl, sym, ap, ◌∙◌, subst}
 use Rattle.host_io.specs.World.{Asked, Opened}
-use Rattle.gold.specs.declared.instances.Table.{Table}
+use Rattle.gold.specs.declared.instances.Witness.{Witness}
 use Rattle.gold.specs.declared.shapes.Shape.{Shape}
 use Rattle.tab_file.specs.declared.fault.TabKind.{TabKind}
 use Rattle.tab_file.specs.Reading.{TabReads, TabFails}
@@ -20,12 +20,12 @@ use Rattle.zk_top.proofs.FileStages.{some_with_file, one_with_file}
 use Rattle.zk_top.proofs.Constraints.{pair, OnText, OnPil, only_text, only_fault, only_failure, text_on, tables_on, refused_so}
 
 -- some outcome, where each line holds or one is the first broken one, and each file reads or fails
-module _ (verdict : (ns : List Namespace) (c : Columns) → AllHold ns c ⊎ ((b : Broken) × IsFirstBroken ns c b)) (reads_or_fails : (bytes : List ℕ) (shape : Shape) → ((i : ℕ) → slice_index bytes i < 256) → ((tables : List Table) × TabReads bytes shape tables) ⊎ ((kind : TabKind) × (at : ℕ) × TabFails bytes shape kind at)) (decided : (text : List ℕ) → IsDecided text) where
+module _ (verdict : (ns : List Namespace) (c : Columns) → AllHold ns c ⊎ ((b : Broken) × IsFirstBroken ns c b)) (reads_or_fails : (bytes : List ℕ) (shape : Shape) → ((i : ℕ) → slice_index bytes i < 256) → ((witness : Witness) × TabReads bytes shape witness) ⊎ ((kind : TabKind) × (at : ℕ) × TabFails bytes shape kind at)) (decided : (text : List ℕ) → IsDecided text) where
   some_lines : (names : List Asked) (ns : List Namespace) (c : Columns) → AllHold ns c ⊎ ((b : Broken) × IsFirstBroken ns c b) → (o : Outcome) × OfLines names ns c o
   some_lines names ns c (inl all) = (reporting names statuses.Done (pil_report ns c), inl (all, refl))
   some_lines names ns c (inr first) = (refused names (statuses.Broken first.0), inr (first.0, first.1, refl))
 
-  some_tables : (names : List Asked) (ns : List Namespace) (file : List ℕ) → ((tables : List Table) × TabReads file (shape_of ns) tables) ⊎ ((kind : TabKind) × (at : ℕ) × TabFails file (shape_of ns) kind at) → (o : Outcome) × OfTables names ns file o
+  some_tables : (names : List Asked) (ns : List Namespace) (file : List ℕ) → ((witness : Witness) × TabReads file (shape_of ns) tables) ⊎ ((kind : TabKind) × (at : ℕ) × TabFails file (shape_of ns) kind at) → (o : Outcome) × OfTables names ns file o
   some_tables names ns file (inl reads) =
       let values = values_of (shape_of ns) reads.0 in
       let rest = some_lines names ns values (verdict ns values) in
@@ -44,7 +44,7 @@ module _ (verdict : (ns : List Namespace) (c : Columns) → AllHold ns c ⊎ ((b
   some_outcome contents pil tables bytes = some_with_file (Opened pil ∷ []) (contents pil) (2 ^ 20) files.Pil (OnPil contents pil tables) (λ text told. some_text contents pil tables bytes text (decided text).some)
 
 -- and only one
-module _ (one_broken : (ns : List Namespace) (c : Columns) (a b : Broken) → IsFirstBroken ns c a → IsFirstBroken ns c b → a ≡ b) (never_both : (ns : List Namespace) (c : Columns) (b : Broken) → AllHold ns c → IsFirstBroken ns c b → ⊥) (one_reading : (bytes : List ℕ) (shape : Shape) (a b : List Table) → TabReads bytes shape a → TabReads bytes shape b → a ≡ b) (not_both : (bytes : List ℕ) (shape : Shape) (tables : List Table) (kind : TabKind) (at : ℕ) → TabReads bytes shape tables → TabFails bytes shape kind at → ⊥) (decided : (text : List ℕ) → IsDecided text) where
+module _ (one_broken : (ns : List Namespace) (c : Columns) (a b : Broken) → IsFirstBroken ns c a → IsFirstBroken ns c b → a ≡ b) (never_both : (ns : List Namespace) (c : Columns) (b : Broken) → AllHold ns c → IsFirstBroken ns c b → ⊥) (one_reading : (bytes : List ℕ) (shape : Shape) (a b : Witness) → TabReads bytes shape a → TabReads bytes shape b → a ≡ b) (not_both : (bytes : List ℕ) (shape : Shape) (witness : Witness) (kind : TabKind) (at : ℕ) → TabReads bytes shape witness → TabFails bytes shape kind at → ⊥) (decided : (text : List ℕ) → IsDecided text) where
   one_lines : (names : List Asked) (ns : List Namespace) (c : Columns) (o p : Outcome) → OfLines names ns c o → OfLines names ns c p → o ≡ p
   one_lines names ns c o p (inl h) (inl k) = h.1 ∙ sym k.1
   one_lines names ns c o p (inl h) (inr k) = absurd (never_both ns c k.0 h.0 k.1)
@@ -56,7 +56,7 @@ module _ (one_broken : (ns : List Namespace) (c : Columns) (a b : Broken) → Is
       one_lines names ns (values_of (shape_of ns) h.0) o p h.2
       (tables_on names ns file h.0 p (λ other reads. one_reading file (shape_of ns) other h.0 reads h.1, λ kind at fails. not_both file (shape_of ns) h.0 kind at h.1 fails) k)
   one_tables names ns file o p (inr h) k =
-      h.3 ∙ sym (refused_so names ns file h.0 h.1 p (only_failure file (shape_of ns) h.0 h.1 (λ tables reads. not_both file (shape_of ns) tables h.0 h.1 reads h.2) h.2) k)
+      h.3 ∙ sym (refused_so names ns file h.0 h.1 p (only_failure file (shape_of ns) h.0 h.1 (λ witness reads. not_both file (shape_of ns) witness h.0 h.1 reads h.2) h.2) k)
 
   one_text : (contents : Contents) (pil tables text : List ℕ) (o p : Outcome) → OnPil contents pil tables text o → OnPil contents pil tables text p → o ≡ p
   one_text contents pil tables text o p (inl h) k =

@@ -1,5 +1,5 @@
 -- What a command comes to, by its words and the contents of its files (docs/COMMANDS.md).
-use Rattle.std.specs.Prelude.{◌≡◌, ◌⊎◌, ℕ, ◌<◌, ◌-◌, ◌^◌, nat_le, false, MatchBool, List, [], ◌∷◌, ◌++◌, length, slice_index, map, flat_map, codes, decimal, Option, Some, None}
+use Rattle.std.specs.Prelude.{◌≡◌, ◌⊎◌, ℕ, ◌<◌, ◌-◌, ◌^◌, nat_le, MatchBool, List, [], ◌∷◌, ◌++◌, length, slice_index, map, flat_map, codes, decimal, Option, Some, None}
 use Rattle.hex.specs.Hex.{encode_lower}
 use Rattle.host_io.specs.World.{Asked, Opened}
 use Rattle.rv_model.specs.Image.{Img}
@@ -8,7 +8,8 @@ use Rattle.rv_model.specs.declared.answer.Public.{Public}
 use Rattle.elf_load.specs.Loads.{Loads}
 use Rattle.elf_load.specs.Refusal.{Refused}
 use Rattle.elf_load.specs.declared.error.ElfErr.{ElfErr}
-use Rattle.gold.specs.declared.instances.Table.{Table}
+use Rattle.gold.specs.declared.instances.Witness.{Witness}
+use Rattle.gold.specs.declared.shapes.Form.TheVariants.{Plain}
 use Rattle.gold.specs.declared.shapes.Shape.{Shape}
 use Rattle.tab_file.specs.declared.fault.TabKind.{TabKind}
 use Rattle.tab_file.specs.Reading.{TabReads, TabFails}
@@ -91,12 +92,12 @@ abbrev pub WithText : List Asked → List ℕ → (List Namespace → Outcome �
 WithText names text On o = ((ns : List Namespace) × TextReads text ns × On ns o) ⊎ ((e : PilErr) × Fails text e × (o ≡ refused names (statuses.BadPil e)))
 
 -- the file reads as tables of the shape, and what they come to; or it is refused
-abbrev pub WithTables : List Asked → Shape → List ℕ → (List Table → Outcome → Type 0) → Outcome → Type 0
-WithTables names shape file On o = ((tables : List Table) × TabReads file shape tables × On tables o) ⊎ ((kind : TabKind) × (at : ℕ) × TabFails file shape kind at × (o ≡ refused names (statuses.BadTables (record { kind = kind; at = at }))))
+abbrev pub WithTables : List Asked → Shape → List ℕ → (Witness → Outcome → Type 0) → Outcome → Type 0
+WithTables names shape file On o = ((witness : Witness) × TabReads file shape witness × On witness o) ⊎ ((kind : TabKind) × (at : ℕ) × TabFails file shape kind at × (o ≡ refused names (statuses.BadTables (record { kind = kind; at = at }))))
 
 -- the shape of a text's tables: an air for each namespace
 abbrev pub shape_of : List Namespace → Shape
-shape_of ns = record { airs = map air_shape ns; machine = false }
+shape_of ns = record { airs = map air_shape ns; form = Plain }
 
 -- the line that reports a public, and none for any other item
 abbrev pub public_line : Columns → Line → List ℕ
@@ -113,7 +114,7 @@ OfLines names ns c o = (AllHold ns c × (o ≡ reporting names statuses.Done (pi
 
 -- what the bytes of the table file come to, under a text that reads as these namespaces
 abbrev pub OfTables : List Asked → List Namespace → List ℕ → Outcome → Type 0
-OfTables names ns file o = WithTables names (shape_of ns) file (λ tables. OfLines names ns (values_of (shape_of ns) tables)) o
+OfTables names ns file o = WithTables names (shape_of ns) file (λ witness. OfLines names ns (values_of (shape_of ns) witness)) o
 
 -- `pil PILFILE TABLES`
 unfoldable pub IsPilOutcome : Contents → List ℕ → List ℕ → Outcome → Type 0

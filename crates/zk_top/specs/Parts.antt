@@ -7,7 +7,7 @@ use Rattle.rv_model.specs.Run.{end_within}
 use Rattle.elf_load.specs.Loads.{Loads}
 use Rattle.elf_load.specs.Refusal.{Refused}
 use Rattle.elf_load.specs.declared.error.ElfErr.{ElfErr}
-use Rattle.gold.specs.declared.instances.Table.{Table}
+use Rattle.gold.specs.declared.instances.Witness.{Witness}
 use Rattle.gold.specs.declared.shapes.Shape.{Shape}
 use Rattle.tab_file.specs.declared.fault.TabKind.{TabKind}
 use Rattle.tab_file.specs.Reading.{TabReads, TabFails}
@@ -100,12 +100,12 @@ abbrev pub IsTextRefusal : List ℕ → Status → Type 0
 IsTextRefusal text status = (status ≡ statuses.NoMemory) ⊎ ((e : PilErr) × (status ≡ statuses.BadPil e) × IsOnlyFault text e)
 
 -- under the shape the file reads as these tables and in no other way
-abbrev pub IsOnlyTables : List ℕ → Shape → List Table → Type 0
-IsOnlyTables file shape tables = ((other : List Table) → TabReads file shape other → other ≡ tables) × ((kind : TabKind) (at : ℕ) → TabFails file shape kind at → ⊥)
+abbrev pub IsOnlyTables : List ℕ → Shape → Witness → Type 0
+IsOnlyTables file shape witness = ((other : Witness) → TabReads file shape other → other ≡ witness) × ((kind : TabKind) (at : ℕ) → TabFails file shape kind at → ⊥)
 
 -- under the shape the file has this refusal and nothing else
 abbrev pub IsOnlyFailure : List ℕ → Shape → TabKind → ℕ → Type 0
-IsOnlyFailure file shape kind at = ((tables : List Table) → TabReads file shape tables → ⊥) × ((k : TabKind) (n : ℕ) → TabFails file shape k n → (k ≡ kind) × (n ≡ at))
+IsOnlyFailure file shape kind at = ((witness : Witness) → TabReads file shape witness → ⊥) × ((k : TabKind) (n : ℕ) → TabFails file shape k n → (k ≡ kind) × (n ≡ at))
 
 -- a table file was refused, or memory ran out
 abbrev pub IsTablesRefusal : List ℕ → Shape → Status → Type 0

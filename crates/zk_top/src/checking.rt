@@ -1,5 +1,5 @@
 //! The command `pil`.
-ghost use Rattle.std.specs.Prelude.{◌≡◌, ◌≢◌, ◌≤◌, ◌^◌, length, IfOk, IfErr, IsErrOf};
+ghost use Rattle.std.specs.Prelude.{◌≡◌, ◌≢◌, ◌≤◌, length, IfOk, IfErr, IsErrOf};
 ghost use Rattle.gold.specs.Shapes.{HaveShape};
 ghost use Rattle.pil_ast.specs.Tree.{namespaces};
 ghost use Rattle.pil_ast.specs.Columns.{Fits};
@@ -30,7 +30,7 @@ const TABLES_LIMIT: u64 = 1 << 48;
 
 // The constraints of a text.
 fn constraints_of(alloc: Global, text: &[u8]) -> Result<Pil, Status>
-    requires { length text.now ≤ 2 ^ 20 }
+    requires { length text.now ≤ TEXT_LIMIT }
     ensures only { IfOk result (λ pil. IsOnlyText text.now (namespaces pil)) }
     ensures sound { IfOk result (λ pil. IsSound (namespaces pil)) }
     ensures refused { IfErr result (IsTextRefusal text.now) }
@@ -47,8 +47,8 @@ fn constraints_of(alloc: Global, text: &[u8]) -> Result<Pil, Status>
 
 // The tables of a file, which have the shape.
 fn tables_of(alloc: Global, file: Vec<u8>, shape: &Shape) -> Result<Witness, Status>
-    ensures only { IfOk result (λ witness. IsOnlyTables file.items shape.now witness.tables) }
-    ensures shaped { IfOk result (λ witness. HaveShape shape.now witness.tables) }
+    ensures only { IfOk result (λ witness. IsOnlyTables file.items shape.now witness) }
+    ensures shaped { IfOk result (λ witness. HaveShape shape.now witness) }
     ensures refused { IfErr result (IsTablesRefusal file.items shape.now) }
 {
     reads_or_fails();

@@ -1,21 +1,32 @@
 //! What holds of every outcome.
 ghost use Rattle.std.specs.Prelude.{◌≡◌, ℕ, List};
-ghost use Rattle.zk_top.specs.Outcome.{Outcome, Contents, AreBytes, IsRunOutcome, IsPilOutcome};
+ghost use Rattle.zk_top.specs.Outcome.{Outcome, Contents, AreBytes, IsRunOutcome, IsPilOutcome, IsOutcome};
 
 use bus_check::one_verdict;
 use elf_load::one_answer;
 use tab_file::laws::{one_text, reads_or_fails};
+use zk_words::one_command;
 
-/// Whatever the files hold, `run` comes to one outcome and no other.
+/// Whatever the words are and whatever bytes the files hold, they come to one outcome and no other.
 pub fn one_outcome()
+    ensures some { (contents : Contents) (words : List (List ℕ)) → AreBytes contents → (o : Outcome) × IsOutcome contents words o }
+    ensures one { (contents : Contents) (words : List (List ℕ)) (o p : Outcome) → IsOutcome contents words o → IsOutcome contents words p → o ≡ p }
+{
+    one_command();
+    one_run();
+    one_pil();
+}
+
+// Whatever the files hold, `run` comes to one outcome and no other.
+fn one_run()
     ensures some { (contents : Contents) (elf input : List ℕ) (steps : ℕ) → (o : Outcome) × IsRunOutcome contents elf input steps o }
     ensures one { (contents : Contents) (elf input : List ℕ) (steps : ℕ) (o p : Outcome) → IsRunOutcome contents elf input steps o → IsRunOutcome contents elf input steps p → o ≡ p }
 {
     one_answer();
 }
 
-/// Whatever the files hold, `pil` comes to one outcome and no other.
-pub fn one_pil_outcome()
+// Whatever bytes the files hold, `pil` comes to one outcome and no other.
+fn one_pil()
     ensures some { (contents : Contents) (pil tables : List ℕ) → AreBytes contents → (o : Outcome) × IsPilOutcome contents pil tables o }
     ensures one { (contents : Contents) (pil tables : List ℕ) (o p : Outcome) → IsPilOutcome contents pil tables o → IsPilOutcome contents pil tables p → o ≡ p }
 {

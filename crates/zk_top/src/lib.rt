@@ -14,5 +14,5 @@ mod tests;
 
 pub use checking::pil_call;
 pub use commands::top;
-pub use laws::{one_outcome, one_pil_outcome};
+pub use laws::one_outcome;
 pub use running::run_call;

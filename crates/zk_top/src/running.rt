@@ -11,14 +11,14 @@ use crate::files::{file_of, stopped};
 use crate::report::run_text;
 use elf_load::{ElfErr, load};
 use host_io::Host;
-use rv_model::{Image, RunEnd};
+use rv_model::{INPUT_LEN, Image, RunEnd};
 use std::alloc::Global;
 use zk_words::{Status, Which};
 
 /// An ELF file has at most so many bytes.
 const ELF_LIMIT: u64 = 1 << 26;
-/// An input has at most so many bytes.
-const INPUT_LIMIT: u64 = (1 << 24) - 8;
+/// An input has at most so many bytes, since its length stands before it in the input window.
+const INPUT_LIMIT: u64 = INPUT_LEN - 8;
 
 // The image of an ELF file, with no input yet.
 fn image_of(alloc: Global, file: &[u8]) -> Result<Image, Status>

@@ -70,6 +70,7 @@ abbrev pub tab_text : TabKind → List ℕ
 tab_text tab.Short = codes "Short"
 tab_text tab.BadMagic = codes "BadMagic"
 tab_text tab.BadVersion = codes "BadVersion"
+tab_text tab.BadProfile = codes "BadProfile"
 tab_text tab.BadAir = codes "BadAir"
 tab_text tab.NoMain = codes "NoMain"
 tab_text tab.NotOneOut = codes "NotOneOut"

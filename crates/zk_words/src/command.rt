@@ -1,5 +1,5 @@
 //! The words of the command line.
-ghost use Rattle.std.specs.Prelude.{◌≡◌, ℕ, ◌+◌, ◌<◌, ◌≤◌, ◌^◌, IfSome, Some, decimal};
+ghost use Rattle.std.specs.Prelude.{◌≡◌, ◌⊎◌, ℕ, ◌+◌, ◌<◌, ◌≤◌, ◌^◌, List, IfSome, Some, decimal};
 ghost use Rattle.zk_words.specs.Words.{Reads, texts, IsNumber};
 ghost use Rattle.zk_words.specs.declared.command.Command.{Command};
 
@@ -60,6 +60,12 @@ pub fn read_words(words: &[String]) -> Option<Command>
         _ => None,
     }
 }
+
+/// Any words read as one command, or as none.
+pub fn one_command()
+    ensures decided { (words : List (List ℕ)) → ((command : Command) × Reads words command) ⊎ ((command : Command) → Reads words command → ⊥) }
+    ensures one { (words : List (List ℕ)) (a b : Command) → Reads words a → Reads words b → a ≡ b }
+{}
 
 #[cfg(test)]
 mod tests {

@@ -85,6 +85,7 @@ fn tables_line(alloc: Global, e: TabErr) -> Result<Vec<u8>, AllocError>
         TabKind::Short => "Short",
         TabKind::BadMagic => "BadMagic",
         TabKind::BadVersion => "BadVersion",
+        TabKind::BadProfile => "BadProfile",
         TabKind::BadAir => "BadAir",
         TabKind::NoMain => "NoMain",
         TabKind::NotOneOut => "NotOneOut",

@@ -1,16 +1,17 @@
 use Rattle.std.proofs.Common.{◌≡◌, ◌<◌, ℕ, List, [], length, take, length-take, get_or, sym, ◌∙◌, ap, arith}
 use Rattle.std.specs.Str.{bytes_eq}
 use Rattle.bus_check.specs.Bus.{numbers}
-use Rattle.bus_check.proofs.Times.{times-nil, times-few, times-more, times-as_before, numbers-at, numbers-long}
+use Rattle.pil_laws.proofs.Times.{times_none, times_few, taken_here, taken_other}
+use Rattle.bus_check.proofs.Times.{numbers-at, numbers-long}
 use Rattle.bus_check.proofs.order.occurrences.Goals as goal
 use Rattle.bus_check.proofs.order.occurrences.Goals.{then-eq, else-eq}
 
 pub loop-other-init : goal.loop-other-init
-loop-other-init c = sym (times-nil _)
+loop-other-init c = sym (times_none _)
 
 pub overflow_add-count : goal.overflow_add-count
 overflow_add-count c =
-    let few = times-few c.args.tuple.now (take c.loop-other.other-index (numbers c.args.tuples.now)) in
+    let few = times_few c.args.tuple.now (take c.loop-other.other-index (numbers c.args.tuples.now)) in
     let cut = length-take c.loop-other.other-index (numbers c.args.tuples.now) in
     let long = numbers-long c.args.tuples.now in
     let inside = c.loop-other-test.true in
@@ -26,6 +27,6 @@ loop-other-preserved c =
     ap (λ t. bytes_eq t c.args.tuple.now) (numbers-at c.args.tuples.now c.loop-other.other-index c.other-item.result d c.loop-other-test.true c.other-item.is ∙ sym c.as_slice.ensures.value) ∙ sym c.eq.ensures in
     let now = c.loop-other.invariant in
     elim c.if-eq.branch [
-      | then-eq w ↦ (let m = times-more c.args.tuple.now (numbers c.args.tuples.now) c.loop-other.other-index d inside (here ∙ w.if-eq.true) in let e = w.count-is in omega arith)
-      | else-eq w ↦ (let m = times-as_before c.args.tuple.now (numbers c.args.tuples.now) c.loop-other.other-index d inside (here ∙ w.if-eq.false) in let e = w.count-is in omega arith)
+      | then-eq w ↦ (let m = taken_here c.args.tuple.now (numbers c.args.tuples.now) c.loop-other.other-index d inside (here ∙ w.if-eq.true) in let e = w.count-is in omega arith)
+      | else-eq w ↦ (let m = taken_other c.args.tuple.now (numbers c.args.tuples.now) c.loop-other.other-index d inside (here ∙ w.if-eq.false) in let e = w.count-is in omega arith)
     ]

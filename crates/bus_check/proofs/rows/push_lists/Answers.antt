@@ -1,6 +1,7 @@
 use Rattle.pil_ast.specs.Tree.{namespaces, tuples as list_of}
 use Rattle.bus_check.specs.Bus.{IsListOf}
-use Rattle.bus_check.proofs.Sent.{all_sent-none, all_sent-more, mapped-at}
+use Rattle.pil_laws.proofs.Loops.{mapped-at}
+use Rattle.bus_check.proofs.Sent.{all_sent-none, all_sent-more}
 use Rattle.bus_check.proofs.rows.push_lists.Goals as goal
 
 pub loop-list-init : goal.loop-list-init

@@ -2,7 +2,7 @@ use Rattle.std.proofs.Common.{sym, ap, subst, ◌∙◌}
 use Rattle.pil_ast.specs.Tree.{term, namespaces}
 use Rattle.pil_ast.specs.Sound.{IsTerm}
 use Rattle.pil_ast.specs.Value.{value_in}
-use Rattle.bus_check.proofs.Sent.{values-more, mapped-at}
+use Rattle.pil_laws.proofs.Loops.{values-more, mapped-at}
 use Rattle.bus_check.proofs.rows.tuple_at.Goals as goal
 
 pub eval-requires-clause-term : goal.eval-requires-clause-term

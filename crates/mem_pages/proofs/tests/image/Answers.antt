@@ -23,8 +23,8 @@ one_segment s is exec multiple room few =
       entry = rw (aligned, runs) (search rules);
     }
 
-pub invariant_of-result : goal.invariant_of-result
-invariant_of-result c =
+pub new-requires-2 : goal.new-requires-2
+new-requires-2 c =
     let s : Seg = record { start = 0x1_0FF8; len = 16; exec = true; bytes = c.in_ok-to_vec.field-0.items } in
     let long : length s.bytes ≡ 16 = grind (arith, common_steps) in
     let is : IsSegment s = record { some = omega arith; below = omega arith; bytes_fit = omega arith; off_input = inl (omega arith); off_output = inl (omega arith) } in

@@ -3,7 +3,6 @@ use Rattle.std.proofs.lemmas.List.{length-map}
 use Rattle.pil_ast.specs.declared.tree.Item.{Item}
 use Rattle.pil_ast.specs.Tree.{line, namespace}
 use Rattle.pil_ast.specs.Term.{Namespace, space_at, width}
-use Rattle.pil_ast.proofs.Limits.{few_columns}
 use Rattle.pil_print.specs.declared.tables.Columns.{Columns}
 use Rattle.pil_print.specs.Statements.{declared}
 use Rattle.pil_print.specs.Tables.{IsTable}
@@ -16,7 +15,7 @@ table-requires c =
     let inside : i < length (map namespace c.args.spaces.now) = omega (arith, length-map c.args.spaces.now namespace) in
     let here = space-here namespace c.args.spaces.now i c.space-item.result (omega arith) c.space-item.is in
     subst (λ (xs : List Item). width (map line xs) < 4294967296) (sym c.as_slice.ensures)
-    (subst (λ (n : Namespace). width n.items < 4294967296) here (few_columns (map namespace c.args.spaces.now) i c.requires inside))
+    (subst (λ (n : Namespace). width n.items < 4294967296) here (c.limit_laws.ensures.columns (map namespace c.args.spaces.now) i c.requires inside))
 
 pub loop-space-preserved : goal.loop-space-preserved
 loop-space-preserved c =

@@ -2,7 +2,7 @@ use Rattle.pil_syntax.specs.Grammar.{limits}
 use Rattle.pil_syntax.specs.Shown.{sentences}
 use Rattle.pil_syntax.proofs.SoundFiles.{file_of}
 use Rattle.pil_syntax.proofs.Unique.{one_file, not_both}
-use Rattle.pil_syntax.proofs.Answered.{refused, no_file, first}
+use Rattle.pil_syntax.proofs.Answered.{refused, no_file, first, without_place}
 use Rattle.pil_syntax.proofs.reading.read_syntax.Goals as goal
 
 pub returns-in-Ok-clause-found : goal.returns-in-Ok-clause-found
@@ -22,3 +22,6 @@ returns-in-Err-clause-only c = λ ss r. no_file limits c.args.tokens.now c.args.
 
 pub returns-in-Err-clause-first : goal.returns-in-Err-clause-first
 returns-in-Err-clause-first c = λ e r. first limits c.args.tokens.now c.args.end c.in-Err.error c.error_at.result c.in-Err.ensures c.error_at.ensures e r
+
+pub returns-in-Err-clause-memory : goal.returns-in-Err-clause-memory
+returns-in-Err-clause-memory c = without_place limits c.args.tokens.now c.args.end c.in-Err.error c.error_at.result c.in-Err.ensures c.error_at.ensures

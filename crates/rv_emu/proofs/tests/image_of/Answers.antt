@@ -23,12 +23,12 @@ one_segment s is exec multiple room few =
       entry = rw (aligned, runs) (search rules);
     }
 
-pub invariant_of-image : goal.invariant_of-image
-invariant_of-image c =
+pub new-requires : goal.new-requires
+new-requires c =
     let s : Seg = record { start = 0x1_0078; len = c.len-2.result; exec = true; bytes = c.loop-word.bytes.items } in
     let fit : length c.loop-word.bytes.items ≤ c.len-2.result = grind (arith, common_steps) in
     let some : 4 ≤ c.len-2.result = grind (arith, common_steps) in
     let few : c.len-2.result ≤ 65536 = grind (arith, common_steps) in
     let is : IsSegment s = record { some = omega arith; below = omega arith; bytes_fit = fit; off_input = inl (omega arith); off_output = inl (omega arith) } in
     let items : c.push.new.self.items ≡ s ∷ [] = c.in_ok-push.ensures.items ∙ ap (λ xs. xs ++ s ∷ []) c.new-segments.ensures.items in
-    rw (c.from.ensures, items, c.new.ensures.items) (one_segment s is refl refl some (omega arith))
+    rw (c.from.ensures, items, c.new-input.ensures.items) (one_segment s is refl refl some (omega arith))

@@ -1,7 +1,7 @@
 use Rattle.std.proofs.Common.{◌≡◌, ◌+◌, ◌*◌, ◌≤◌, ℕ, length, take, arith, refl, ap, ◌∙◌}
 use Rattle.rv_model.specs.Run.{window}
 use Rattle.mem_pages.specs.Memory.{word_of}
-use Rattle.rv_model.proofs.Windows.{window_step, window_all}
+use Rattle.rv_emu.proofs.Windows.{window_step, window_all}
 use Rattle.rv_emu.proofs.window.output_window.Goals as goal
 
 pub loop-i-init : goal.loop-i-init

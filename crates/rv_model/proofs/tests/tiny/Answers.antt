@@ -23,8 +23,8 @@ one_segment s is exec multiple room few =
       entry = rw (aligned, runs) (search rules);
     }
 
-pub invariant_of-result : goal.invariant_of-result
-invariant_of-result c =
+pub new-requires-2 : goal.new-requires-2
+new-requires-2 c =
     let s : Seg = record { start = c.args.start; len = c.len-2.result; exec = true; bytes = c.loop-word.bytes.items } in
     let fit : length c.loop-word.bytes.items ≤ c.len-2.result = grind (arith, common_steps) in
     let some : 4 ≤ c.len-2.result = grind (arith, common_steps) in

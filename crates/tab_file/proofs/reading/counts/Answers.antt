@@ -11,14 +11,14 @@ pub returns-in_err-count_at-clause-fail : goal.returns-in_err-count_at-clause-fa
 returns-in_err-count_at-clause-fail c =
     let e = c.in_err-count_at.field-0.0 in
     IfErr-passed c.from_residual.result e _ c.from_residual.ensures.1
-    (rw (← c.as_slice-airs.ensures) (counts_fail c.args.bytes.now c.args.shape.now.machine c.as_slice-airs.result.now c.loop-air.at c.loop-air.air e c.loop-air-test.true c.loop-air.invariant.rest c.in_err-count_at.ensures.fail))
+    (counts_fail c.args.bytes.now c.args.start c.args.machine c.args.airs.now c.loop-air.at c.loop-air.air e c.loop-air-test.true c.loop-air.invariant.rest c.in_err-count_at.ensures.fail)
 
 pub loop-air-preserved : goal.loop-air-preserved
 loop-air-preserved c =
-    let place : c.loop-air.at ≡ 12 + c.loop-air.air * 4 = omega (arith, c.loop-air.invariant.next) in
+    let place : c.loop-air.at ≡ c.args.start + c.loop-air.air * 4 = omega (arith, c.loop-air.invariant.next) in
     record {
-      values = rw (c.in_ok-push.ensures.items, c.loop-air.invariant.values, numbers_from-more w32 c.args.bytes.now 12 c.loop-air.air, ← place, c.in_ok-count_at.ensures.value) refl;
+      values = rw (c.in_ok-push.ensures.items, c.loop-air.invariant.values, numbers_from-more w32 c.args.bytes.now c.args.start c.loop-air.air, ← place, c.in_ok-count_at.ensures.value) refl;
       next = omega (arith, c.loop-air.invariant.next);
       whole = c.in_ok-count_at.ensures.pass.whole;
-      rest = counts_pass c.args.bytes.now c.args.shape.now.machine c.as_slice-airs.result.now c.loop-air.at c.loop-air.air c.loop-air-test.true c.loop-air.invariant.rest c.in_ok-count_at.ensures.pass;
+      rest = counts_pass c.args.bytes.now c.args.start c.args.machine c.args.airs.now c.loop-air.at c.loop-air.air c.loop-air-test.true c.loop-air.invariant.rest c.in_ok-count_at.ensures.pass;
     }

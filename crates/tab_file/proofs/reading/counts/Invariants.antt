@@ -6,8 +6,8 @@ use Rattle.tab_file.proofs.reading.counts.Given as goal
 
 abbrev pub invariant-loop-air : goal.invariant-loop-air
 invariant-loop-air l = record {
-  values : l.counts.items ≡ numbers_from w32 l.bytes 12 l.air;
-  next : l.at ≡ 12 + 4 * l.air;
+  values : l.counts.items ≡ numbers_from w32 l.bytes l.start l.air;
+  next : l.at ≡ l.start + 4 * l.air;
   whole : l.at ≤ length l.bytes;
-  rest : (more : List Item) → first_failure l.bytes 12 (count_items l.shape.machine 0 l.airs ++ more) ≡ first_failure l.bytes l.at (count_items l.shape.machine l.air (drop l.air l.airs) ++ more);
+  rest : (more : List Item) → first_failure l.bytes l.start (count_items l.machine 0 l.airs ++ more) ≡ first_failure l.bytes l.at (count_items l.machine l.air (drop l.air l.airs) ++ more);
 }

@@ -1,7 +1,7 @@
 use Rattle.std.proofs.Common.{◌≡◌, ℕ, ◌++◌, List, length, append_assoc}
 use Rattle.std.specs.List.{flat_map}
 use Rattle.tab_file.specs.Format.{number, value}
-use Rattle.tab_file.specs.Machine.{height}
+use Rattle.tab_file.specs.Steps.{height}
 use Rattle.tab_file.proofs.writing.put_table.Goals as goal
 
 -- five texts that are written one after the other

@@ -17,10 +17,10 @@ returns-in-Err-clause-comes c =
 pub returns-clause-comes : goal.returns-clause-comes
 returns-clause-comes c =
     let ns = namespaces c.args.pil.now in
-    let tables = c.in-Ok-tables_of.witness.tables in
+    let witness = c.in-Ok-tables_of.witness in
     let columns = c.in-Ok-new.columns in
     let result = c.verdict.result in
     let shape : c.in-Ok.shape ≡ shape_of ns = same_shape c.in-Ok.shape ns c.in-Ok.ensures.0 c.in-Ok.ensures.1 in
-    let values : values_of columns.shape columns.tables ≡ values_of (shape_of ns) tables = c.in-Ok-new.ensures.values ∙ ap (λ (s : Shape). values_of s tables) shape in
-    let only : IsOnlyTables c.args.file.items (shape_of ns) tables = subst (λ (s : Shape). IsOnlyTables c.args.file.items s tables) shape c.in-Ok-tables_of.ensures.only in
-    lines_come ns c.args.file.items tables result only (subst (λ (v : Columns). Comes (λ names. OfLines names ns v) result) values c.verdict.ensures.comes)
+    let values : values_of columns.shape columns.witness ≡ values_of (shape_of ns) c.in-Ok-tables_of.witness = c.in-Ok-new.ensures.values ∙ ap (λ (s : Shape). values_of s witness) shape in
+    let only : IsOnlyTables c.args.file.items (shape_of ns) c.in-Ok-tables_of.witness = subst (λ (s : Shape). IsOnlyTables c.args.file.items s witness) shape c.in-Ok-tables_of.ensures.only in
+    lines_come ns c.args.file.items witness result only (subst (λ (v : Columns). Comes (λ names. OfLines names ns v) result) values c.verdict.ensures.comes)

@@ -12,5 +12,5 @@ returns c = record {
       let e = c.in-Err.e in
       let fails = c.in-Err.ensures.fails c.in_default.not-NoMemory in
       subst (λ (file : List _). IsTablesRefusal file c.args.shape.now (BadTables e)) c.deref.ensures.value
-      (inr (e.kind, e.at, refl, only_failure c.deref.result.now c.args.shape.now e.kind e.at (λ tables reads. c.reads_or_fails.ensures.not_both c.deref.result.now c.args.shape.now tables e.kind e.at reads fails) fails));
+      (inr (e.kind, e.at, refl, only_failure c.deref.result.now c.args.shape.now e.kind e.at (λ witness reads. c.reads_or_fails.ensures.not_both c.deref.result.now c.args.shape.now witness e.kind e.at reads fails) fails));
 }

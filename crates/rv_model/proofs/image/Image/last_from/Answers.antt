@@ -7,7 +7,7 @@ use Rattle.rv_model.proofs.image.Image.last_from.Goals as goal
 pub returns-then-count-eq0 : goal.returns-then-count-eq0
 returns-then-count-eq0 c =
     let a : ℕ = c.args.address in
-    let ascending : AllPairs EndsBefore c.deref.result.now = rw c.deref.ensures.value c.self.invariant.ascending in
+    let ascending : AllPairs EndsBefore c.deref.result.now = rw c.deref.ensures.value c.self.invariant.loadable.ascending in
     let splits : Splits a c.deref.result.now c.partition_point-count.result =
     c.partition_point-count.ensures.partitioned (λ s. nat_le s.start a) (always_returns_same _ _ _ (λ x r f k. search (rules, of_calls))) (starts_partitioned _ a ascending) in
     rw (← c.self.view_is, ← c.deref.ensures.value) record {
@@ -18,7 +18,7 @@ returns-then-count-eq0 c =
 pub returns-else-count-eq0 : goal.returns-else-count-eq0
 returns-else-count-eq0 c =
     let a : ℕ = c.args.address in
-    let ascending : AllPairs EndsBefore c.deref.result.now = rw c.deref.ensures.value c.self.invariant.ascending in
+    let ascending : AllPairs EndsBefore c.deref.result.now = rw c.deref.ensures.value c.self.invariant.loadable.ascending in
     let splits : Splits a c.deref.result.now c.partition_point-count.result =
     c.partition_point-count.ensures.partitioned (λ s. nat_le s.start a) (always_returns_same _ _ _ (λ x r f k. search (rules, of_calls))) (starts_partitioned _ a ascending) in
     let is : c.index.result.now ≡ get_or c.deref.result.now (c.partition_point-count.result - 1) c.index.result.now = rw c.deref.ensures.value c.index.ensures in

@@ -1,0 +1,16 @@
+-- The namespace Bit: the numbers 0 and 1.
+use Rattle.std.specs.Prelude.{ℕ, false, List, [], ◌∷◌, None, codes}
+use Rattle.pil_ast.specs.Term.{Term, col, Line, constant, Namespace}
+
+abbrev pub here : ℕ
+here = 0
+
+abbrev pub V : Term
+V = col here 0 false
+
+abbrev pub items : List Line
+items =
+    constant (codes "V") None ∷ []
+
+abbrev pub space : Namespace
+space = record { name = codes "Bit"; rows = 2; items = items }

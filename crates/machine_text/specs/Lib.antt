@@ -1,0 +1,16 @@
+pub mod Words
+pub mod Bit
+pub mod Range16
+pub mod BinTab
+pub mod ShiftTab
+pub mod Rom
+pub mod Init
+pub mod Main
+pub mod Mem
+pub mod Out
+pub mod Align
+pub mod Binary
+pub mod Shift
+pub mod Arith
+pub mod Machine
+pub mod Lines

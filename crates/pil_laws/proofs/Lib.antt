@@ -1,0 +1,9 @@
+pub mod Times
+pub mod Sent
+pub mod Sums
+pub mod Ranges
+pub mod Values
+pub mod Table
+pub mod Join
+pub mod Lines
+pub mod Loops

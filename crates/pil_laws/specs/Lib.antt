@@ -1,0 +1,5 @@
+pub mod Sends
+pub mod Lines
+pub mod Joints
+pub mod Table
+pub mod Laws

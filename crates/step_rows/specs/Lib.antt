@@ -1,0 +1,10 @@
+pub mod Words
+pub mod Tuples
+pub mod Rom
+pub mod Initial
+pub mod MainRow
+pub mod BinaryRow
+pub mod ShiftRow
+pub mod ArithRow
+pub mod AlignRow
+pub mod Rows

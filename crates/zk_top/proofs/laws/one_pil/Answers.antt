@@ -1,0 +1,8 @@
+use Rattle.zk_top.proofs.Verdicts.{some_outcome, one_outcome}
+use Rattle.zk_top.proofs.laws.one_pil.Goals as goal
+
+pub returns-clause-some : goal.returns-clause-some
+returns-clause-some c = some_outcome c.one_verdict.ensures.some c.reads_or_fails.ensures.one c.one_answer.ensures.decided
+
+pub returns-clause-one : goal.returns-clause-one
+returns-clause-one c = one_outcome c.one_verdict.ensures.one c.one_verdict.ensures.not_both c.one_text.ensures.witness c.reads_or_fails.ensures.not_both c.one_answer.ensures.decided
