@@ -10,10 +10,11 @@ use Rattle.std.proofs.lemmas.List.FromFn.{map-range_with_len_more}
 use Rattle.chain_pool.specs.Lists.{list_of, Appends}
 use Rattle.rv_model.specs.Image.{Img}
 use Rattle.rv_model.specs.declared.answer.Public.{Public}
+use Rattle.rv_model.specs.declared.machine.TheConstants.{OUTPUT_INDEX}
 use Rattle.min_trace.specs.Record.{record_at, records_between}
 use Rattle.min_trace.specs.declared.record.StepRecord.{StepRecord}
 use Rattle.mem_rows.specs.declared.access.Access.{Access}
-use Rattle.mem_rows.specs.declared.access.TheConstants.{END, OUTPUT}
+use Rattle.mem_rows.specs.declared.access.TheConstants.{END}
 use Rattle.mem_rows.specs.Accesses.{of_step, of_steps, reads, output_word, output_reads, accesses_to, first_writes}
 use Rattle.mem_rows.specs.Order.{of_key, key_end}
 use Rattle.mem_rows.specs.Kept.{Adds, AreInReach, Keeps, KeepsTo}
@@ -56,11 +57,11 @@ pub adds_more : (a b c : List (ℕ × List Access)) (xs ys : List Access) → Ad
 adds_more a b c xs ys h i k =
     i k ∙ ap (λ l. l ++ of_key ys k) (h k) ∙ append_assoc (list_of a k) (of_key xs k) (of_key ys k) ∙ ap (λ l. list_of a k ++ l) (sym (filter-append (λ (x : Access). x.key == k) xs ys))
 
-pub output_more : (public : Public) (k v : ℕ) (a b c : List (ℕ × List Access)) → Adds a b (output_reads public k) → v ≡ output_word public k → Adds b c (reads (OUTPUT + k) END v ∷ []) → Adds a c (output_reads public (k + 1))
+pub output_more : (public : Public) (k v : ℕ) (a b c : List (ℕ × List Access)) → Adds a b (output_reads public k) → v ≡ output_word public k → Adds b c (reads (OUTPUT_INDEX + k) END v ∷ []) → Adds a c (output_reads public (k + 1))
 unfolding output_reads
 output_more public k v a b c h e i =
-    subst (Adds a c) (ap (λ x. output_reads public k ++ reads (OUTPUT + k) END x ∷ []) e ∙ sym (map-range_with_len_more (λ j. reads (OUTPUT + j) END (output_word public j)) 0 k k (omega arith)))
-    (adds_more a b c (output_reads public k) (reads (OUTPUT + k) END v ∷ []) h i)
+    subst (Adds a c) (ap (λ x. output_reads public k ++ reads (OUTPUT_INDEX + k) END x ∷ []) e ∙ sym (map-range_with_len_more (λ j. reads (OUTPUT_INDEX + j) END (output_word public j)) 0 k k (omega arith)))
+    (adds_more a b c (output_reads public k) (reads (OUTPUT_INDEX + k) END v ∷ []) h i)
 
 -- a step of a chunk more
 pub step_more : (self new : List (ℕ × List Access)) (left after : List StepRecord) (r : StepRecord) → left ≡ r ∷ after → Adds self new (of_step r) → (k : ℕ) → list_of new k ++ of_key (of_steps after) k ≡ list_of self k ++ of_key (of_steps left) k

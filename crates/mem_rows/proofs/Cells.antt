@@ -9,12 +9,13 @@ use Rattle.gold.specs.declared.instances.Table.{Table}
 use Rattle.mem_rows.specs.declared.access.TheConstants.{END}
 use Rattle.std.proofs.lemmas.List.{length-map, length-append, length-take, length-drop, length-replicate, take_all}
 use Rattle.run_rows.specs.Tables.{padded, by_columns}
-use Rattle.zk_layout.specs.Air.{air_number, rows_per}
+use Rattle.zk_layout.specs.Air.{air_number, rows_per, columns_per}
 use Rattle.zk_layout.specs.declared.air.Air.TheVariants.{Mem, Out}
 use Rattle.rv_model.specs.declared.answer.Public.{Public}
+use Rattle.step_rows.specs.Words.{low, high, one_if}
 use Rattle.mem_rows.specs.declared.access.Access.{Access}
 use Rattle.mem_rows.specs.declared.columns.Step.{Step}
-use Rattle.mem_rows.specs.Rows.{row, rows_behind, mem_table, bit, low, high, final_values, out_table}
+use Rattle.mem_rows.specs.Rows.{row, rows_behind, mem_table, final_values, out_table}
 use Rattle.mem_rows.specs.Columns.{step_of, steps_behind, one_on, last_from, columns_of}
 
 padded-cons : (n x : ℕ) (xs : List ℕ) → padded (suc n) (x ∷ xs) ≡ x ∷ padded n xs
@@ -124,7 +125,7 @@ own_2 : (p : Option Access) (a : Access) → slice_index (row p (Some a)) 2 ≡ 
 own_2 None a = refl
 own_2 (Some q) a = refl
 
-own_3 : (p : Option Access) (a : Access) → slice_index (row p (Some a)) 3 ≡ bit a.write
+own_3 : (p : Option Access) (a : Access) → slice_index (row p (Some a)) 3 ≡ one_if a.write
 own_3 None a = refl
 own_3 (Some q) a = refl
 
@@ -176,7 +177,7 @@ none_9 : (p : Option Access) → slice_index (row p None) 9 ≡ 0
 none_9 None = refl
 none_9 (Some q) = refl
 
-step_6 : (p : Option Access) (a : Access) → slice_index (row p (Some a)) 6 ≡ bit (step_of p a).same
+step_6 : (p : Option Access) (a : Access) → slice_index (row p (Some a)) 6 ≡ one_if (step_of p a).same
 step_6 None a = refl
 step_6 (Some q) a = refl
 
@@ -224,7 +225,11 @@ before_14 (Some q) (Some a) = refl
 
 pub columns_are : (n : ℕ) (p : Option Access) (zs : List Access) → by_columns 15 (suc n) (take (suc n) (rows_behind p zs)) ≡ columns_of (suc n) p (take (suc n) zs)
 columns_are n p zs =
-    both _ _ _ _ (own_cell 0 (λ (a : Access). 1) own_0 none_0 (suc n) p zs) (both _ _ _ _ (own_cell 1 (λ (a : Access). a.key) own_1 none_1 (suc n) p zs) (both _ _ _ _ (own_cell 2 (λ (a : Access). a.time) own_2 none_2 (suc n) p zs) (both _ _ _ _ (own_cell 3 (λ (a : Access). bit a.write) own_3 none_3 (suc n) p zs) (both _ _ _ _ (own_cell 4 (λ (a : Access). low a.value) own_4 none_4 (suc n) p zs) (both _ _ _ _ (own_cell 5 (λ (a : Access). high a.value) own_5 none_5 (suc n) p zs) (both _ _ _ _ (step_cell 6 (λ (s : Step). bit s.same) step_6 none_6 (suc n) p zs) (both _ _ _ _ (step_cell 7 (λ (s : Step). s.gap % 65536) step_7 none_7 (suc n) p zs) (both _ _ _ _ (step_cell 8 (λ (s : Step). s.gap / 65536 % 65536) step_8 none_8 (suc n) p zs) (both _ _ _ _ (step_cell 9 (λ (s : Step). s.gap / 2 ^ 32) step_9 none_9 (suc n) p zs) (both _ _ _ _ (before_cell 10 (λ (a : Access). 1) before_10 n p zs ∙ sym (one_on_is n (option_map_or (λ (a : Access). 1) p 0) (λ (a : Access). 1) zs)) (both _ _ _ _ (before_cell 11 (λ (a : Access). a.key) before_11 n p zs ∙ sym (one_on_is n (option_map_or (λ (a : Access). a.key) p 0) (λ (a : Access). a.key) zs)) (both _ _ _ _ (before_cell 12 (λ (a : Access). a.time) before_12 n p zs ∙ sym (one_on_is n (option_map_or (λ (a : Access). a.time) p 0) (λ (a : Access). a.time) zs)) (both _ _ _ _ (before_cell 13 (λ (a : Access). low a.value) before_13 n p zs ∙ sym (one_on_is n (option_map_or (λ (a : Access). low a.value) p 0) (λ (a : Access). low a.value) zs)) (both _ _ _ _ (before_cell 14 (λ (a : Access). high a.value) before_14 n p zs ∙ sym (one_on_is n (option_map_or (λ (a : Access). high a.value) p 0) (λ (a : Access). high a.value) zs)) refl))))))))))))))
+    both _ _ _ _ (own_cell 0 (λ (a : Access). 1) own_0 none_0 (suc n) p zs) (both _ _ _ _ (own_cell 1 (λ (a : Access). a.key) own_1 none_1 (suc n) p zs) (both _ _ _ _ (own_cell 2 (λ (a : Access). a.time) own_2 none_2 (suc n) p zs) (both _ _ _ _ (own_cell 3 (λ (a : Access). one_if a.write) own_3 none_3 (suc n) p zs) (both _ _ _ _ (own_cell 4 (λ (a : Access). low a.value) own_4 none_4 (suc n) p zs) (both _ _ _ _ (own_cell 5 (λ (a : Access). high a.value) own_5 none_5 (suc n) p zs) (both _ _ _ _ (step_cell 6 (λ (s : Step). one_if s.same) step_6 none_6 (suc n) p zs) (both _ _ _ _ (step_cell 7 (λ (s : Step). s.gap % 65536) step_7 none_7 (suc n) p zs) (both _ _ _ _ (step_cell 8 (λ (s : Step). s.gap / 65536 % 65536) step_8 none_8 (suc n) p zs) (both _ _ _ _ (step_cell 9 (λ (s : Step). s.gap / 2 ^ 32) step_9 none_9 (suc n) p zs) (both _ _ _ _ (before_cell 10 (λ (a : Access). 1) before_10 n p zs ∙ sym (one_on_is n (option_map_or (λ (a : Access). 1) p 0) (λ (a : Access). 1) zs)) (both _ _ _ _ (before_cell 11 (λ (a : Access). a.key) before_11 n p zs ∙ sym (one_on_is n (option_map_or (λ (a : Access). a.key) p 0) (λ (a : Access). a.key) zs)) (both _ _ _ _ (before_cell 12 (λ (a : Access). a.time) before_12 n p zs ∙ sym (one_on_is n (option_map_or (λ (a : Access). a.time) p 0) (λ (a : Access). a.time) zs)) (both _ _ _ _ (before_cell 13 (λ (a : Access). low a.value) before_13 n p zs ∙ sym (one_on_is n (option_map_or (λ (a : Access). low a.value) p 0) (λ (a : Access). low a.value) zs)) (both _ _ _ _ (before_cell 14 (λ (a : Access). high a.value) before_14 n p zs ∙ sym (one_on_is n (option_map_or (λ (a : Access). high a.value) p 0) (λ (a : Access). high a.value) zs)) refl))))))))))))))
+
+mem_columns : 15 ≡ columns_per Mem
+unfolding columns_per
+mem_columns = refl
 
 pub table_is : (xs own : List Access) (i number rows start : ℕ) (p : Option Access) (cols : List (List ℕ)) → number ≡ air_number Mem → rows ≡ rows_per Mem → 0 < rows → start ≡ i * rows → start ≤ length xs → own ≡ take rows (drop start xs)
     → p ≡ last_from None xs start → cols ≡ columns_of rows p own → ◌≡◌ {A = Table} (record { air = number; instance = i; columns = cols }) (mem_table xs i)
@@ -235,7 +240,7 @@ table_is xs own i number rows start p cols a r some s le o b e =
     subst P (sym suc_rows) (columns_are (rows - 1) (last_from None xs start) (drop start xs)) in
     let cells : cols ≡ by_columns 15 rows (take rows (drop (i * rows) (rows_behind None xs))) =
     e ∙ ap (λ q. columns_of rows q own) b ∙ ap (columns_of rows (last_from None xs start)) o ∙ sym at ∙ ap (λ l. by_columns 15 rows (take rows l)) (sym (drop_rows start None xs le)) ∙ ap (λ k. by_columns 15 rows (take rows (drop k (rows_behind None xs)))) s in
-    ap (λ k. record { air = k; instance = i; columns = cols }) a ∙ ap (λ l. record { air = air_number Mem; instance = i; columns = l }) (cells ∙ ap (λ m. by_columns 15 m (take m (drop (i * m) (rows_behind None xs)))) r)
+    ap (λ k. record { air = k; instance = i; columns = cols }) a ∙ ap (λ l. record { air = air_number Mem; instance = i; columns = l }) (cells ∙ ap (λ m. by_columns 15 m (take m (drop (i * m) (rows_behind None xs)))) r ∙ ap (λ w. by_columns w (rows_per Mem) (take (rows_per Mem) (drop (i * rows_per Mem) (rows_behind None xs)))) mem_columns)
 
 -- ---- Out
 map_limb : (f : ℕ → ℕ) (g : ℕ → List ℕ) (c : ℕ) → ((v : ℕ) → slice_index (g v) c ≡ f v) → (vs : List ℕ) → map (λ r. slice_index r c) (map g vs) ≡ map f vs
@@ -256,13 +261,17 @@ out_columns n vs le =
 out_length : (public : Public) → length (final_values public) ≡ 33
 out_length public = refl
 
+two_columns : 2 ≡ columns_per Out
+unfolding columns_per
+two_columns = refl
+
 pub out_is : (public : Public) (number rows : ℕ) (values seen again : List ℕ) (none one two : List (List ℕ)) (lo hi : List ℕ) → number ≡ air_number Out → rows ≡ rows_per Out → 64 ≤ rows → values ≡ final_values public → seen ≡ values → again ≡ values
     → none ≡ [] → lo ≡ padded rows (map low seen) → one ≡ none ++ lo ∷ [] → hi ≡ padded rows (map high again) → two ≡ one ++ hi ∷ [] → ◌≡◌ {A = Table} (record { air = number; instance = 0; columns = two }) (out_table public)
 out_is public number rows values seen again none one two lo hi a r least v s g n l o h t =
     let few : length (final_values public) ≤ rows = let e = out_length public in omega arith in
     let cells : two ≡ by_columns 2 rows (take rows (drop (0 * rows) (map (λ v. low v ∷ high v ∷ []) (final_values public)))) =
     t ∙ ap (λ xs. xs ++ hi ∷ []) (o ∙ ap (λ xs. xs ++ lo ∷ []) n) ∙ both _ _ _ _ (l ∙ ap (λ xs. padded rows (map low xs)) (s ∙ v)) (both _ _ _ _ (h ∙ ap (λ xs. padded rows (map high xs)) (g ∙ v)) refl) ∙ sym (out_columns rows (final_values public) few) in
-    ap (λ k. record { air = k; instance = 0; columns = two }) a ∙ ap (λ c. record { air = air_number Out; instance = 0; columns = c }) (cells ∙ ap (λ m. by_columns 2 m (take m (drop (0 * m) (map (λ v. low v ∷ high v ∷ []) (final_values public))))) r)
+    ap (λ k. record { air = k; instance = 0; columns = two }) a ∙ ap (λ c. record { air = air_number Out; instance = 0; columns = c }) (cells ∙ ap (λ m. by_columns 2 m (take m (drop (0 * m) (map (λ v. low v ∷ high v ∷ []) (final_values public))))) r ∙ ap (λ w. by_columns w (rows_per Out) (take (rows_per Out) (drop (0 * rows_per Out) (map (λ v. low v ∷ high v ∷ []) (final_values public))))) two_columns)
 
 pub rest_is : (xs : List Access) (start : ℕ) → take (length xs - start) (drop start xs) ≡ drop start xs
 rest_is xs start = take_all (length xs - start) (drop start xs) (omega (arith, length-drop start xs))

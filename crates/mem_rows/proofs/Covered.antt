@@ -5,15 +5,15 @@ use Rattle.std.proofs.lemmas.Bool.{cases_lt}
 use Rattle.std.proofs.lemmas.Bool.Decides.{nat_tests}
 use Rattle.std.proofs.lemmas.List.{get_or_past}
 use Rattle.chain_pool.specs.Lists.{list_of}
-use Rattle.rv_model.specs.Image.{Img, Seg, has, byte_in, segment_byte, window_byte, input_start, input_end, initial_byte, initial_word}
+use Rattle.rv_model.specs.Image.{Img, Seg, has, byte_in, segment_byte, window_byte, initial_byte, initial_word}
+use Rattle.rv_model.specs.declared.machine.TheConstants.{INPUT_START, INPUT_END}
 use Rattle.mem_rows.specs.declared.access.Access.{Access}
-use Rattle.mem_rows.specs.Accesses.{first_write}
 use Rattle.mem_rows.specs.Kept.{KeepsTo}
-use Rattle.mem_rows.specs.Initial.{IsPart, IsWritten, Writes}
+use Rattle.mem_rows.specs.Initial.{write_at, IsPart, IsWritten, Writes}
 use Rattle.mem_rows.proofs.Begun.{begun}
 
 abbrev Done : Img → List (ℕ × List Access) → ℕ → Type 0
-Done image lists q = list_of lists q ≡ first_write image q
+Done image lists q = list_of lists q ≡ write_at image q
 
 started : (s : Seg) (a : ℕ) → has a s ≡ true → s.start ≤ a
 started s a e = grind (arith, nat_tests)
@@ -34,13 +34,13 @@ segments_covered image lists q (s ∷ ss) w a at =
     ] in
     found (has a s) refl
 
-window_covered : (image : Img) (lists : List (ℕ × List Access)) (q : ℕ) → ((k : ℕ) → 0x0800_0000 ≤ k → k < 0x0800_0000 + length image.input / 8 + 2 → Done image lists k) → (a : ℕ) → a / 8 ≡ q → input_start ≤ a
-    → (window_byte image.input (a - input_start) ≡ 0) ⊎ Done image lists q
+window_covered : (image : Img) (lists : List (ℕ × List Access)) (q : ℕ) → ((k : ℕ) → 0x0800_0000 ≤ k → k < 0x0800_0000 + length image.input / 8 + 2 → Done image lists k) → (a : ℕ) → a / 8 ≡ q → INPUT_START ≤ a
+    → (window_byte image.input (a - INPUT_START) ≡ 0) ⊎ Done image lists q
 window_covered image lists q w a at le =
     ⊎_elim (λ lt. inr (w q (omega arith) (omega arith)))
-    (λ past. let no : ltb (a - input_start) 8 ≡ false = le-ltb (a - input_start) 8 (omega arith) in inl (rw no (get_or_past image.input (a - input_start - 8) 0 (omega arith)))) (cases_lt (a - input_start) (8 + length image.input))
+    (λ past. let no : ltb (a - INPUT_START) 8 ≡ false = le-ltb (a - INPUT_START) 8 (omega arith) in inl (rw no (get_or_past image.input (a - INPUT_START - 8) 0 (omega arith)))) (cases_lt (a - INPUT_START) (8 + length image.input))
 
-in_window : (a : ℕ) → (nat_le input_start a && nat_lt a input_end) ≡ true → input_start ≤ a
+in_window : (a : ℕ) → (nat_le INPUT_START a && nat_lt a INPUT_END) ≡ true → INPUT_START ≤ a
 in_window a e = grind (arith, nat_tests)
 
 record AreWritten (image : Img) (lists : List (ℕ × List Access)) : Type 0 where
@@ -50,12 +50,12 @@ record AreWritten (image : Img) (lists : List (ℕ × List Access)) : Type 0 whe
 covered : (image : Img) (lists : List (ℕ × List Access)) → AreWritten image lists → (q a : ℕ) → a / 8 ≡ q → (initial_byte image a ≡ 0) ⊎ Done image lists q
 unfolding initial_byte
 covered image lists w q a at =
-    let chosen : (b : Bool) → (nat_le input_start a && nat_lt a input_end) ≡ b → (cond b (window_byte image.input (a - input_start)) (segment_byte image.segments a) ≡ 0) ⊎ Done image lists q =
-    λ b. elim b as (λ v. (nat_le input_start a && nat_lt a input_end) ≡ v → (cond v (window_byte image.input (a - input_start)) (segment_byte image.segments a) ≡ 0) ⊎ Done image lists q) [
+    let chosen : (b : Bool) → (nat_le INPUT_START a && nat_lt a INPUT_END) ≡ b → (cond b (window_byte image.input (a - INPUT_START)) (segment_byte image.segments a) ≡ 0) ⊎ Done image lists q =
+    λ b. elim b as (λ v. (nat_le INPUT_START a && nat_lt a INPUT_END) ≡ v → (cond v (window_byte image.input (a - INPUT_START)) (segment_byte image.segments a) ≡ 0) ⊎ Done image lists q) [
       | true ↦ λ e. window_covered image lists q w.input a at (in_window a e)
       | false ↦ λ e. segments_covered image lists q image.segments w.segments a at
     ] in
-    chosen (nat_le input_start a && nat_lt a input_end) refl
+    chosen (nat_le INPUT_START a && nat_lt a INPUT_END) refl
 
 zero_word : (image : Img) (q : ℕ) → ((i : ℕ) → i < 8 → initial_byte image (8 * q + i) ≡ 0) → initial_word image q ≡ 0
 unfolding initial_word

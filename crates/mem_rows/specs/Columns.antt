@@ -4,7 +4,8 @@ use Rattle.std.specs.Option.{option_map_or}
 use Rattle.run_rows.specs.Tables.{padded}
 use Rattle.mem_rows.specs.declared.access.Access.{Access}
 use Rattle.mem_rows.specs.declared.columns.Step.{Step}
-use Rattle.mem_rows.specs.Rows.{bit, low, high, gap}
+use Rattle.step_rows.specs.Words.{low, high, one_if}
+use Rattle.mem_rows.specs.Rows.{gap}
 
 -- what an access has to do with the one before it
 abbrev pub step_of : Option Access → Access → Step
@@ -20,11 +21,11 @@ abbrev pub access_columns : ℕ → List Access → List (List ℕ)
 access_columns rows xs = padded rows (map (λ (a : Access). 1) xs) ∷ padded rows (map (λ (a : Access). a.key) xs) ∷ padded rows (map (λ (a : Access). a.time) xs) ∷ []
 
 abbrev pub value_columns : ℕ → List Access → List (List ℕ)
-value_columns rows xs = padded rows (map (λ (a : Access). bit a.write) xs) ∷ padded rows (map (λ (a : Access). low a.value) xs) ∷ padded rows (map (λ (a : Access). high a.value) xs) ∷ []
+value_columns rows xs = padded rows (map (λ (a : Access). one_if a.write) xs) ∷ padded rows (map (λ (a : Access). low a.value) xs) ∷ padded rows (map (λ (a : Access). high a.value) xs) ∷ []
 
 -- those of what they have to do with those before them
 abbrev pub step_columns : ℕ → List Step → List (List ℕ)
-step_columns rows ss = padded rows (map (λ (s : Step). bit s.same) ss) ∷ padded rows (map (λ (s : Step). s.gap % 65536) ss) ∷ padded rows (map (λ (s : Step). s.gap / 65536 % 65536) ss) ∷ padded rows (map (λ (s : Step). s.gap / 2 ^ 32) ss) ∷ []
+step_columns rows ss = padded rows (map (λ (s : Step). one_if s.same) ss) ∷ padded rows (map (λ (s : Step). s.gap % 65536) ss) ∷ padded rows (map (λ (s : Step). s.gap / 65536 % 65536) ss) ∷ padded rows (map (λ (s : Step). s.gap / 2 ^ 32) ss) ∷ []
 
 -- a column's values one row on
 abbrev pub one_on : ℕ → List ℕ → List ℕ

@@ -2,23 +2,17 @@
 use Rattle.std.specs.Prelude.{ℕ, ◌+◌, ◌-◌, ◌*◌, ◌/◌, ◌%◌, ◌^◌, ◌==◌, Bool, List, [], ◌∷◌, ◌++◌, map, length, replicate, Option, Some, None, if◌then◌else◌}
 use Rattle.std.specs.List.{range_with_len}
 use Rattle.gold.specs.declared.instances.Table.{Table}
+use Rattle.zk_layout.specs.Air.{columns_per}
 use Rattle.zk_layout.specs.declared.air.Air.TheVariants.{Mem, Out}
 use Rattle.rv_model.specs.Image.{Img}
 use Rattle.rv_model.specs.declared.answer.Public.{Public}
+use Rattle.rv_model.specs.declared.machine.TheConstants.{OUTPUT_WORDS}
 use Rattle.planner.specs.Jobs.{instances}
 use Rattle.run_rows.specs.Tables.{table_of}
+use Rattle.step_rows.specs.Words.{low, high, one_if}
 use Rattle.mem_rows.specs.Accesses.{accesses, output_word}
 use Rattle.mem_rows.specs.Order.{in_order}
 use Rattle.mem_rows.specs.declared.access.Access.{Access}
-
-abbrev pub bit : Bool → ℕ
-bit b = if b then 1 else 0
-
-abbrev pub low : ℕ → ℕ
-low v = v % 2 ^ 32
-
-abbrev pub high : ℕ → ℕ
-high v = v / 2 ^ 32
 
 -- the distance to the row before, less 1: of the times at the same key, else of the keys
 abbrev pub gap : Access → Access → ℕ
@@ -26,11 +20,11 @@ gap p a = if a.key == p.key then a.time - p.time - 1 else a.key - p.key - 1
 
 -- sel, key, time, wr, lo, hi: the access
 abbrev pub own : Access → List ℕ
-own a = 1 ∷ a.key ∷ a.time ∷ bit a.write ∷ low a.value ∷ high a.value ∷ []
+own a = 1 ∷ a.key ∷ a.time ∷ one_if a.write ∷ low a.value ∷ high a.value ∷ []
 
 -- same, g[0], g[1], g[2]: whether the key is that of the row before, and the limbs of the gap
 abbrev pub step_from : Access → Access → List ℕ
-step_from p a = bit (a.key == p.key) ∷ gap p a % 65536 ∷ gap p a / 65536 % 65536 ∷ gap p a / 2 ^ 32 ∷ []
+step_from p a = one_if (a.key == p.key) ∷ gap p a % 65536 ∷ gap p a / 65536 % 65536 ∷ gap p a / 2 ^ 32 ∷ []
 
 -- psel, pkey, ptime, plo, phi: the row before
 abbrev pub before : Access → List ℕ
@@ -51,7 +45,7 @@ rows_behind p (a ∷ xs) = row p (Some a) ∷ rows_behind (Some a) xs
 
 -- instance i of Mem, and all its instances, over accesses in order
 abbrev pub mem_table : List Access → ℕ → Table
-mem_table xs i = table_of Mem 15 i (rows_behind None xs)
+mem_table xs i = table_of Mem (columns_per Mem) i (rows_behind None xs)
 
 abbrev pub mem_tables_of : List Access → List Table
 mem_tables_of xs = map (mem_table xs) (range_with_len 0 (instances Mem (length xs)))
@@ -62,8 +56,8 @@ mem_tables image n public = mem_tables_of (in_order (accesses image n public))
 
 -- the final values: x10, and the doublewords of the output window
 abbrev pub final_values : Public → List ℕ
-final_values public = public.exit ∷ map (output_word public) (range_with_len 0 32)
+final_values public = public.exit ∷ map (output_word public) (range_with_len 0 OUTPUT_WORDS)
 
 -- the instance of Out: lo, hi
 abbrev pub out_table : Public → Table
-out_table public = table_of Out 2 0 (map (λ v. low v ∷ high v ∷ []) (final_values public))
+out_table public = table_of Out (columns_per Out) 0 (map (λ v. low v ∷ high v ∷ []) (final_values public))

@@ -5,7 +5,8 @@ ghost use Rattle.gold.specs.Field.{p, IsCanonical};
 ghost use Rattle.run_rows.specs.Tables.{padded};
 ghost use Rattle.mem_rows.specs.declared.access.Access.{Access as AnyAccess};
 ghost use Rattle.mem_rows.specs.declared.columns.Step.{Step as AnyStep};
-ghost use Rattle.mem_rows.specs.Rows.{bit, low, high, gap};
+ghost use Rattle.step_rows.specs.Words.{low, high, one_if};
+ghost use Rattle.mem_rows.specs.Rows.{gap};
 ghost use Rattle.mem_rows.specs.Columns.{step_of, steps_behind, access_columns, value_columns, step_columns, access_before, value_before, columns_of};
 
 use crate::Access;
@@ -39,12 +40,30 @@ fn column(mut values: Vec<u64>, rows: usize) -> Result<Column, AllocError>
     Ok(Column::from_vec(values))
 }
 
+#[inline]
+#[tactic(auto, unfolding(step_rows::specs::Words::low))]
+fn low(v: u64) -> u64
+    ensures value { result ≡ low v }
+    ensures small { result < 2 ^ 32 }
+{
+    v % (1 << 32)
+}
+
+#[inline]
+#[tactic(auto, unfolding(step_rows::specs::Words::high))]
+fn high(v: u64) -> u64
+    ensures value { result ≡ high v }
+    ensures small { result < 2 ^ 32 }
+{
+    v >> 32
+}
+
 /// The column of the low limbs.
 pub fn low_column(alloc: Global, values: &[u64], rows: usize) -> Result<Column, AllocError>
     requires { length values.now ≤ rows }
     ensures { IfOk result (λ c. c ≡ padded rows (map low values.now)) }
 {
-    let limbs = values.iter().map(|v| *v % (1 << 32)).collect(alloc)?;
+    let limbs = values.iter().map(|v| low(*v)).collect(alloc)?;
     column(limbs, rows)
 }
 
@@ -53,7 +72,7 @@ pub fn high_column(alloc: Global, values: &[u64], rows: usize) -> Result<Column,
     requires { length values.now ≤ rows }
     ensures { IfOk result (λ c. c ≡ padded rows (map high values.now)) }
 {
-    let limbs = values.iter().map(|v| *v >> 32).collect(alloc)?;
+    let limbs = values.iter().map(|v| high(*v)).collect(alloc)?;
     column(limbs, rows)
 }
 
@@ -83,8 +102,8 @@ fn times(alloc: Global, accesses: &[Access], rows: usize) -> Result<Column, Allo
 }
 
 #[inline]
-fn bit(b: bool) -> u64
-    ensures value { result ≡ bit b }
+fn one_if(b: bool) -> u64
+    ensures value { result ≡ one_if b }
     ensures small { result ≤ 1 }
 {
     u64::from(b)
@@ -92,9 +111,9 @@ fn bit(b: bool) -> u64
 
 fn kinds(alloc: Global, accesses: &[Access], rows: usize) -> Result<Column, AllocError>
     requires { length accesses.now ≤ rows }
-    ensures { IfOk result (λ c. c ≡ padded rows (map (λ (a : AnyAccess). bit a.write) accesses.now)) }
+    ensures { IfOk result (λ c. c ≡ padded rows (map (λ (a : AnyAccess). one_if a.write) accesses.now)) }
 {
-    let values = accesses.iter().map(|a| bit(a.write)).collect(alloc)?;
+    let values = accesses.iter().map(|a| one_if(a.write)).collect(alloc)?;
     column(values, rows)
 }
 
@@ -102,7 +121,7 @@ fn lows(alloc: Global, accesses: &[Access], rows: usize) -> Result<Column, Alloc
     requires { length accesses.now ≤ rows }
     ensures { IfOk result (λ c. c ≡ padded rows (map (λ (a : AnyAccess). low a.value) accesses.now)) }
 {
-    let values = accesses.iter().map(|a| a.value % (1 << 32)).collect(alloc)?;
+    let values = accesses.iter().map(|a| low(a.value)).collect(alloc)?;
     column(values, rows)
 }
 
@@ -110,7 +129,7 @@ fn highs(alloc: Global, accesses: &[Access], rows: usize) -> Result<Column, Allo
     requires { length accesses.now ≤ rows }
     ensures { IfOk result (λ c. c ≡ padded rows (map (λ (a : AnyAccess). high a.value) accesses.now)) }
 {
-    let values = accesses.iter().map(|a| a.value >> 32).collect(alloc)?;
+    let values = accesses.iter().map(|a| high(a.value)).collect(alloc)?;
     column(values, rows)
 }
 
@@ -159,9 +178,9 @@ fn steps_behind(
 
 fn sames(alloc: Global, steps: &[Step], rows: usize) -> Result<Column, AllocError>
     requires { length steps.now ≤ rows }
-    ensures { IfOk result (λ c. c ≡ padded rows (map (λ (s : AnyStep). bit s.same) steps.now)) }
+    ensures { IfOk result (λ c. c ≡ padded rows (map (λ (s : AnyStep). one_if s.same) steps.now)) }
 {
-    let values = steps.iter().map(|s| bit(s.same)).collect(alloc)?;
+    let values = steps.iter().map(|s| one_if(s.same)).collect(alloc)?;
     column(values, rows)
 }
 
@@ -275,8 +294,8 @@ fn cells_of(before: Option<Access>) -> Before
             one: 1,
             key: u64::from(access.key),
             time: access.time,
-            low: access.value % (1 << 32),
-            high: access.value >> 32,
+            low: low(access.value),
+            high: high(access.value),
         },
         None => Before {
             one: 0,

@@ -4,16 +4,16 @@ ghost use Rattle.mem_rows.specs.Kept.{KeepsTo};
 ghost use Rattle.mem_rows.specs.Initial.{IsPart, Writes};
 
 use crate::{Access, Accesses};
-use rv_model::{Image, Segment};
+use rv_model::{INPUT_START, Image, MEMORY_WORDS, Segment};
 use std::alloc::{AllocError, Global};
 
 // The first doubleword of the input window.
-const INPUT: u32 = 0x0800_0000;
+const INPUT: u32 = (INPUT_START / 8) as u32;
 
 impl Accesses {
     // Writes a doubleword that isn't 0, unless that is done.
     fn write(&mut self, image: &Image, k: u32) -> Result<(), AllocError>
-        requires below { k < 2 ^ 29 }
+        requires below { k < MEMORY_WORDS }
         requires part { IsPart image.now self.old }
         ensures { OnOk result (Writes image.now self.old self.new k (k + 1)) }
     {
@@ -31,7 +31,7 @@ impl Accesses {
 
     // The same for each doubleword from one up to another.
     fn write_range(&mut self, image: &Image, from: u32, to: u32) -> Result<(), AllocError>
-        requires below { to ≤ 2 ^ 29 }
+        requires below { to ≤ MEMORY_WORDS }
         requires part { IsPart image.now self.old }
         ensures { OnOk result (Writes image.now self.old self.new from to) }
     {
@@ -44,7 +44,7 @@ impl Accesses {
 
 fn end_of(segment: &Segment) -> u32
     ensures value { result ≡ (segment.now.start + length segment.now.bytes + 7) / 8 }
-    ensures below { result ≤ 2 ^ 29 }
+    ensures below { result ≤ MEMORY_WORDS }
 {
     ((u64::from(segment.start) + segment.bytes.len() as u64 + 7) / 8) as u32
 }

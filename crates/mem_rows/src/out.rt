@@ -5,20 +5,17 @@ ghost use Rattle.mem_rows.specs.Accesses.{output_word, output_reads, last_reads}
 ghost use Rattle.mem_rows.specs.Kept.{Adds};
 ghost use Rattle.mem_rows.specs.Rows.{final_values, out_table};
 
-use crate::access::{END, OUTPUT, REGISTERS};
+use crate::access::{END, REGISTERS};
 use crate::columns::{high_column, low_column};
 use crate::{Access, Accesses};
 use gold::{Columns, Table};
-use rv_model::Public;
+use rv_model::{EXIT_REGISTER, OUTPUT_INDEX, OUTPUT_WORDS, Public};
 use std::alloc::{AllocError, Global};
 use zk_layout::Air;
 
-// The doublewords of the output window.
-const WORDS: u32 = 32;
-
 #[tactic(auto, unfolding(crate::specs::Accesses::output_word))]
 fn output_word(public: &Public, k: u32) -> u64
-    requires { k < WORDS }
+    requires { k < OUTPUT_WORDS }
     ensures { result ≡ output_word public.now k }
 {
     let at = 8 * k as usize;
@@ -37,13 +34,13 @@ fn output_word(public: &Public, k: u32) -> u64
 
 impl Accesses {
     fn push_output(&mut self, public: &Public) -> Result<(), AllocError>
-        ensures { OnOk result (Adds self.old self.new (output_reads public.now WORDS)) }
+        ensures { OnOk result (Adds self.old self.new (output_reads public.now OUTPUT_WORDS)) }
     {
-        for k in 0..WORDS {
+        for k in 0..OUTPUT_WORDS {
             self.put(Access {
                 time: END,
                 value: output_word(public, k),
-                key: OUTPUT + k,
+                key: OUTPUT_INDEX + k,
                 write: false,
             })?;
         }
@@ -57,7 +54,7 @@ impl Accesses {
         self.put(Access {
             time: END,
             value: public.exit,
-            key: REGISTERS + 10,
+            key: REGISTERS + EXIT_REGISTER as u32,
             write: false,
         })?;
         self.push_output(public)?;
@@ -66,9 +63,9 @@ impl Accesses {
 }
 
 fn push_words(values: &mut Vec<u64>, public: &Public) -> Result<(), AllocError>
-    ensures { OnOk result (values.new.items ≡ values.old.items ++ map (output_word public.now) (range_with_len 0 WORDS)) }
+    ensures { OnOk result (values.new.items ≡ values.old.items ++ map (output_word public.now) (range_with_len 0 OUTPUT_WORDS)) }
 {
-    for k in 0..WORDS {
+    for k in 0..OUTPUT_WORDS {
         values.push(output_word(public, k))?;
     }
     Ok(())

@@ -4,7 +4,9 @@ ghost use Rattle.rv_model.specs.Cpu.{is_store};
 ghost use Rattle.mem_rows.specs.Accesses.{register, reads, stored, of_memory, of_register, of_step};
 ghost use Rattle.mem_rows.specs.Kept.{Adds};
 
-use crate::access::{END, register, time};
+use crate::access::{
+    END, READS_MEMORY, READS_RS1, READS_RS2, WRITES_MEMORY, WRITES_RD, register, time,
+};
 use crate::{Access, Accesses};
 use min_trace::{MemAct, StepRecord};
 use rv_model::is_store;
@@ -17,7 +19,7 @@ impl Accesses {
     {
         if stores {
             self.put(Access {
-                time: time(step, 4),
+                time: time(step, WRITES_MEMORY),
                 value: act.result,
                 key: act.index,
                 write: true,
@@ -36,7 +38,7 @@ impl Accesses {
     {
         if let Some(act) = mem {
             self.put(Access {
-                time: time(step, 3),
+                time: time(step, READS_MEMORY),
                 value: act.old,
                 key: act.index,
                 write: false,
@@ -51,7 +53,7 @@ impl Accesses {
     {
         if let Some((reg, value)) = *rd {
             self.put(Access {
-                time: time(step, 5),
+                time: time(step, WRITES_RD),
                 value,
                 key: register(reg),
                 write: true,
@@ -76,8 +78,8 @@ impl Accesses {
     pub(crate) fn push_step(&mut self, step: &StepRecord) -> Result<(), AllocError>
         ensures { OnOk result (Adds self.old self.new (of_step step.now)) }
     {
-        self.push_read(time(step.step, 1), step.rs1, step.a)?;
-        self.push_read(time(step.step, 2), step.rs2, step.s)?;
+        self.push_read(time(step.step, READS_RS1), step.rs1, step.a)?;
+        self.push_read(time(step.step, READS_RS2), step.rs2, step.s)?;
         self.push_memory(is_store(&step.instr), step.step, &step.mem)?;
         self.push_register(step.step, &step.rd)?;
         Ok(())
