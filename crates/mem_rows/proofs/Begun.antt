@@ -69,10 +69,10 @@ other_write j k v true ne = refl
 other_write j k v false ne = off j v k ne
 
 -- the writes before the run that a key has, of those from low on
-writes_from : Img → ℕ → ℕ → List Access
+unfoldable pub writes_from : Img → ℕ → ℕ → List Access
 writes_from image low n = flat_map (write_at image) (range_with_len low n)
 
-writes_off : (image : Img) (low n k : ℕ) → (k < low) ⊎ (low + n ≤ k) → of_key (writes_from image low n) k ≡ []
+pub writes_off : (image : Img) (low n k : ℕ) → (k < low) ⊎ (low + n ≤ k) → of_key (writes_from image low n) k ≡ []
 unfolding writes_from
 writes_off image low zero k out = refl
 writes_off image low (suc n) k out =
@@ -81,7 +81,7 @@ writes_off image low (suc n) k out =
     filter-append (λ (a : Access). a.key == k) (write_at image low) (writes_from image (low + 1) n)
     ∙ ap (λ l. l ++ of_key (writes_from image (low + 1) n) k) (other_write low k (initial_word image low) (initial_word image low == 0) ne) ∙ writes_off image (low + 1) n k more
 
-writes_at : (image : Img) (low n k : ℕ) → low ≤ k → k < low + n → of_key (writes_from image low n) k ≡ write_at image k
+pub writes_at : (image : Img) (low n k : ℕ) → low ≤ k → k < low + n → of_key (writes_from image low n) k ≡ write_at image k
 unfolding writes_from
 writes_at image low zero k le lt = absurd (omega arith)
 writes_at image low (suc n) k le lt =
@@ -104,7 +104,7 @@ some_writes image (k ∷ ks) =
 all_words : 2 ^ 29 ≡ MEMORY_WORDS
 all_words = refl
 
-all_writes : (image : Img) → first_writes image ≡ writes_from image 0 MEMORY_WORDS
+pub all_writes : (image : Img) → first_writes image ≡ writes_from image 0 MEMORY_WORDS
 unfolding writes_from initial_doublewords
 all_writes image = some_writes image (range_with_len 0 (2 ^ 29)) ∙ ap (λ n. flat_map (write_at image) (range_with_len 0 n)) all_words
 

@@ -4,3 +4,8 @@ pub mod Cells
 pub mod Order
 pub mod Walked
 pub mod Covered
+pub mod Pairs
+pub mod Values
+pub mod Rising
+pub mod States
+pub mod Run

@@ -4,3 +4,4 @@ pub mod Kept
 pub mod Rows
 pub mod Columns
 pub mod Initial
+pub mod Sequence

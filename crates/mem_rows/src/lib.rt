@@ -7,6 +7,7 @@ mod accesses;
 mod columns;
 mod initial;
 mod instances;
+mod laws;
 mod out;
 mod steps;
 #[cfg(test)]
@@ -14,4 +15,5 @@ mod tests;
 
 pub use access::Access;
 pub use accesses::Accesses;
+pub use laws::accesses_law;
 pub use out::out_table;
