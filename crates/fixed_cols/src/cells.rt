@@ -132,11 +132,6 @@ impl Place {
         u64::from(self.row) + 1 == u64::from(self.rows)
     }
 
-    fn has_next(self) -> bool
-    {
-        u64::from(self.instance) + 1 < u64::from(self.instances)
-    }
-
     fn is_first(self) -> bool
         ensures { one_if result ≡ is_first self.instance self.row }
     {

@@ -1,8 +1,8 @@
 //! The values of all constant columns.
-ghost use Rattle.std.specs.Prelude.{◌≡◌, ◌<◌, IfOk};
+ghost use Rattle.std.specs.Prelude.{◌≡◌, ◌+◌, ◌*◌, ◌<◌, ◌^◌, slice_get, slice_index, IfOk};
+ghost use Rattle.zk_layout.specs.Air.{air_number, rows_in};
 ghost use Rattle.zk_layout.specs.Namespaces.{namespace_at};
-ghost use Rattle.fixed_cols.specs.Constants.{fixed_of, instances_in, constant_in};
-ghost use Rattle.fixed_cols.specs.Constants.{instances_for};
+ghost use Rattle.fixed_cols.specs.Constants.{instruction, doubleword, fixed_of, instances_for, instances_in, constant_in};
 
 use crate::Sizes;
 use crate::cells::{
