@@ -8,7 +8,8 @@ use Rattle.chain_pool.specs.Lists.{list_of}
 use Rattle.rv_model.specs.Image.{Img, initial_word}
 use Rattle.mem_rows.specs.declared.access.Access.{Access}
 use Rattle.rv_model.specs.declared.machine.TheConstants.{MEMORY_WORDS}
-use Rattle.step_rows.specs.Initial.{Doubleword, unless_zero, initial_doublewords}
+use Rattle.step_rows.specs.declared.doubleword.Doubleword.{Doubleword}
+use Rattle.step_rows.specs.Initial.{unless_zero, initial_doublewords}
 use Rattle.mem_rows.specs.Accesses.{writes, first_write, first_writes, accesses_to}
 use Rattle.mem_rows.specs.Order.{of_key}
 use Rattle.mem_rows.specs.Kept.{Adds, KeepsTo}

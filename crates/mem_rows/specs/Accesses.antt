@@ -9,7 +9,8 @@ use Rattle.rv_model.specs.declared.machine.TheConstants.{OUTPUT_INDEX, OUTPUT_WO
 use Rattle.min_trace.specs.Record.{records_between}
 use Rattle.min_trace.specs.declared.record.MemAct.{MemAct}
 use Rattle.min_trace.specs.declared.record.StepRecord.{StepRecord}
-use Rattle.step_rows.specs.Initial.{Doubleword, initial_doublewords}
+use Rattle.step_rows.specs.declared.doubleword.Doubleword.{Doubleword}
+use Rattle.step_rows.specs.Initial.{initial_doublewords}
 use Rattle.mem_rows.specs.declared.access.Access.{Access}
 use Rattle.mem_rows.specs.declared.access.TheConstants.{REGISTERS, SLOTS, READS_RS1, READS_RS2, READS_MEMORY, WRITES_MEMORY, WRITES_RD, END}
 
