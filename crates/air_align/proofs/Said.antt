@@ -86,102 +86,179 @@ Says k off = (x : Cells) → Op x (kind_number k) off → Said k off x
 
 lb : Each (λ j. Says kinds.Lb (1 * j)) 8
 unfolding kind_number
-lb =
-    (λ x o. let r = row x 1 0 o in record { number = amount r A.kind refl; offset = amount r A.off refl; low = amount r A.mlo refl; high = amount r A.mhi refl; sign = line r (item_at items 53) (o.selected.meets 53) refl },
-    (λ x o. let r = row x 1 1 o in record { number = amount r A.kind refl; offset = amount r A.off refl; low = amount r A.mlo refl; high = amount r A.mhi refl; sign = line r (item_at items 53) (o.selected.meets 53) refl },
-    (λ x o. let r = row x 1 2 o in record { number = amount r A.kind refl; offset = amount r A.off refl; low = amount r A.mlo refl; high = amount r A.mhi refl; sign = line r (item_at items 53) (o.selected.meets 53) refl },
-    (λ x o. let r = row x 1 3 o in record { number = amount r A.kind refl; offset = amount r A.off refl; low = amount r A.mlo refl; high = amount r A.mhi refl; sign = line r (item_at items 53) (o.selected.meets 53) refl },
-    (λ x o. let r = row x 1 4 o in record { number = amount r A.kind refl; offset = amount r A.off refl; low = amount r A.mlo refl; high = amount r A.mhi refl; sign = line r (item_at items 53) (o.selected.meets 53) refl },
-    (λ x o. let r = row x 1 5 o in record { number = amount r A.kind refl; offset = amount r A.off refl; low = amount r A.mlo refl; high = amount r A.mhi refl; sign = line r (item_at items 53) (o.selected.meets 53) refl },
-    (λ x o. let r = row x 1 6 o in record { number = amount r A.kind refl; offset = amount r A.off refl; low = amount r A.mlo refl; high = amount r A.mhi refl; sign = line r (item_at items 53) (o.selected.meets 53) refl },
-    (λ x o. let r = row x 1 7 o in record { number = amount r A.kind refl; offset = amount r A.off refl; low = amount r A.mlo refl; high = amount r A.mhi refl; sign = line r (item_at items 53) (o.selected.meets 53) refl },
-    tt))))))))
+lb = (
+  λ x o. let r = row x 1 0 o in record { number = amount r A.kind refl; offset = amount r A.off refl; low = amount r A.mlo refl; high = amount r A.mhi refl; sign = line r (item_at items 53) (o.selected.meets 53) refl },
+  (
+    λ x o. let r = row x 1 1 o in record { number = amount r A.kind refl; offset = amount r A.off refl; low = amount r A.mlo refl; high = amount r A.mhi refl; sign = line r (item_at items 53) (o.selected.meets 53) refl },
+    (
+      λ x o. let r = row x 1 2 o in record { number = amount r A.kind refl; offset = amount r A.off refl; low = amount r A.mlo refl; high = amount r A.mhi refl; sign = line r (item_at items 53) (o.selected.meets 53) refl },
+      (
+        λ x o. let r = row x 1 3 o in record { number = amount r A.kind refl; offset = amount r A.off refl; low = amount r A.mlo refl; high = amount r A.mhi refl; sign = line r (item_at items 53) (o.selected.meets 53) refl },
+        (
+          λ x o. let r = row x 1 4 o in record { number = amount r A.kind refl; offset = amount r A.off refl; low = amount r A.mlo refl; high = amount r A.mhi refl; sign = line r (item_at items 53) (o.selected.meets 53) refl },
+          (
+            λ x o. let r = row x 1 5 o in record { number = amount r A.kind refl; offset = amount r A.off refl; low = amount r A.mlo refl; high = amount r A.mhi refl; sign = line r (item_at items 53) (o.selected.meets 53) refl },
+            (
+              λ x o. let r = row x 1 6 o in record { number = amount r A.kind refl; offset = amount r A.off refl; low = amount r A.mlo refl; high = amount r A.mhi refl; sign = line r (item_at items 53) (o.selected.meets 53) refl },
+              (
+                λ x o. let r = row x 1 7 o in record { number = amount r A.kind refl; offset = amount r A.off refl; low = amount r A.mlo refl; high = amount r A.mhi refl; sign = line r (item_at items 53) (o.selected.meets 53) refl },
+                tt,
+              ),
+            ),
+          ),
+        ),
+      ),
+    ),
+  ),
+)
 
 lh : Each (λ j. Says kinds.Lh (2 * j)) 4
 unfolding kind_number
-lh =
-    (λ x o. let r = row x 2 0 o in record { number = amount r A.kind refl; offset = amount r A.off refl; low = amount r A.mlo refl; high = amount r A.mhi refl; sign = line r (item_at items 53) (o.selected.meets 53) refl },
-    (λ x o. let r = row x 2 2 o in record { number = amount r A.kind refl; offset = amount r A.off refl; low = amount r A.mlo refl; high = amount r A.mhi refl; sign = line r (item_at items 53) (o.selected.meets 53) refl },
-    (λ x o. let r = row x 2 4 o in record { number = amount r A.kind refl; offset = amount r A.off refl; low = amount r A.mlo refl; high = amount r A.mhi refl; sign = line r (item_at items 53) (o.selected.meets 53) refl },
-    (λ x o. let r = row x 2 6 o in record { number = amount r A.kind refl; offset = amount r A.off refl; low = amount r A.mlo refl; high = amount r A.mhi refl; sign = line r (item_at items 53) (o.selected.meets 53) refl },
-    tt))))
+lh = (
+  λ x o. let r = row x 2 0 o in record { number = amount r A.kind refl; offset = amount r A.off refl; low = amount r A.mlo refl; high = amount r A.mhi refl; sign = line r (item_at items 53) (o.selected.meets 53) refl },
+  (
+    λ x o. let r = row x 2 2 o in record { number = amount r A.kind refl; offset = amount r A.off refl; low = amount r A.mlo refl; high = amount r A.mhi refl; sign = line r (item_at items 53) (o.selected.meets 53) refl },
+    (
+      λ x o. let r = row x 2 4 o in record { number = amount r A.kind refl; offset = amount r A.off refl; low = amount r A.mlo refl; high = amount r A.mhi refl; sign = line r (item_at items 53) (o.selected.meets 53) refl },
+      (
+        λ x o. let r = row x 2 6 o in record { number = amount r A.kind refl; offset = amount r A.off refl; low = amount r A.mlo refl; high = amount r A.mhi refl; sign = line r (item_at items 53) (o.selected.meets 53) refl },
+        tt,
+      ),
+    ),
+  ),
+)
 
 lw : Each (λ j. Says kinds.Lw (4 * j)) 2
 unfolding kind_number
-lw =
-    (λ x o. let r = row x 3 0 o in record { number = amount r A.kind refl; offset = amount r A.off refl; low = amount r A.mlo refl; high = amount r A.mhi refl; sign = line r (item_at items 53) (o.selected.meets 53) refl },
-    (λ x o. let r = row x 3 4 o in record { number = amount r A.kind refl; offset = amount r A.off refl; low = amount r A.mlo refl; high = amount r A.mhi refl; sign = line r (item_at items 53) (o.selected.meets 53) refl },
-    tt))
+lw = (
+  λ x o. let r = row x 3 0 o in record { number = amount r A.kind refl; offset = amount r A.off refl; low = amount r A.mlo refl; high = amount r A.mhi refl; sign = line r (item_at items 53) (o.selected.meets 53) refl },
+  (
+    λ x o. let r = row x 3 4 o in record { number = amount r A.kind refl; offset = amount r A.off refl; low = amount r A.mlo refl; high = amount r A.mhi refl; sign = line r (item_at items 53) (o.selected.meets 53) refl },
+    tt,
+  ),
+)
 
 ld : Each (λ j. Says kinds.Ld (8 * j)) 1
 unfolding kind_number
-ld =
-    (λ x o. let r = row x 4 0 o in record { number = amount r A.kind refl; offset = amount r A.off refl; low = amount r A.mlo refl; high = amount r A.mhi refl; sign = line r (item_at items 53) (o.selected.meets 53) refl },
-    tt)
+ld = (
+  λ x o. let r = row x 4 0 o in record { number = amount r A.kind refl; offset = amount r A.off refl; low = amount r A.mlo refl; high = amount r A.mhi refl; sign = line r (item_at items 53) (o.selected.meets 53) refl },
+  tt,
+)
 
 lbu : Each (λ j. Says kinds.Lbu (1 * j)) 8
 unfolding kind_number
-lbu =
-    (λ x o. let r = row x 5 0 o in record { number = amount r A.kind refl; offset = amount r A.off refl; low = amount r A.mlo refl; high = amount r A.mhi refl; sign = line r (item_at items 53) (o.selected.meets 53) refl },
-    (λ x o. let r = row x 5 1 o in record { number = amount r A.kind refl; offset = amount r A.off refl; low = amount r A.mlo refl; high = amount r A.mhi refl; sign = line r (item_at items 53) (o.selected.meets 53) refl },
-    (λ x o. let r = row x 5 2 o in record { number = amount r A.kind refl; offset = amount r A.off refl; low = amount r A.mlo refl; high = amount r A.mhi refl; sign = line r (item_at items 53) (o.selected.meets 53) refl },
-    (λ x o. let r = row x 5 3 o in record { number = amount r A.kind refl; offset = amount r A.off refl; low = amount r A.mlo refl; high = amount r A.mhi refl; sign = line r (item_at items 53) (o.selected.meets 53) refl },
-    (λ x o. let r = row x 5 4 o in record { number = amount r A.kind refl; offset = amount r A.off refl; low = amount r A.mlo refl; high = amount r A.mhi refl; sign = line r (item_at items 53) (o.selected.meets 53) refl },
-    (λ x o. let r = row x 5 5 o in record { number = amount r A.kind refl; offset = amount r A.off refl; low = amount r A.mlo refl; high = amount r A.mhi refl; sign = line r (item_at items 53) (o.selected.meets 53) refl },
-    (λ x o. let r = row x 5 6 o in record { number = amount r A.kind refl; offset = amount r A.off refl; low = amount r A.mlo refl; high = amount r A.mhi refl; sign = line r (item_at items 53) (o.selected.meets 53) refl },
-    (λ x o. let r = row x 5 7 o in record { number = amount r A.kind refl; offset = amount r A.off refl; low = amount r A.mlo refl; high = amount r A.mhi refl; sign = line r (item_at items 53) (o.selected.meets 53) refl },
-    tt))))))))
+lbu = (
+  λ x o. let r = row x 5 0 o in record { number = amount r A.kind refl; offset = amount r A.off refl; low = amount r A.mlo refl; high = amount r A.mhi refl; sign = line r (item_at items 53) (o.selected.meets 53) refl },
+  (
+    λ x o. let r = row x 5 1 o in record { number = amount r A.kind refl; offset = amount r A.off refl; low = amount r A.mlo refl; high = amount r A.mhi refl; sign = line r (item_at items 53) (o.selected.meets 53) refl },
+    (
+      λ x o. let r = row x 5 2 o in record { number = amount r A.kind refl; offset = amount r A.off refl; low = amount r A.mlo refl; high = amount r A.mhi refl; sign = line r (item_at items 53) (o.selected.meets 53) refl },
+      (
+        λ x o. let r = row x 5 3 o in record { number = amount r A.kind refl; offset = amount r A.off refl; low = amount r A.mlo refl; high = amount r A.mhi refl; sign = line r (item_at items 53) (o.selected.meets 53) refl },
+        (
+          λ x o. let r = row x 5 4 o in record { number = amount r A.kind refl; offset = amount r A.off refl; low = amount r A.mlo refl; high = amount r A.mhi refl; sign = line r (item_at items 53) (o.selected.meets 53) refl },
+          (
+            λ x o. let r = row x 5 5 o in record { number = amount r A.kind refl; offset = amount r A.off refl; low = amount r A.mlo refl; high = amount r A.mhi refl; sign = line r (item_at items 53) (o.selected.meets 53) refl },
+            (
+              λ x o. let r = row x 5 6 o in record { number = amount r A.kind refl; offset = amount r A.off refl; low = amount r A.mlo refl; high = amount r A.mhi refl; sign = line r (item_at items 53) (o.selected.meets 53) refl },
+              (
+                λ x o. let r = row x 5 7 o in record { number = amount r A.kind refl; offset = amount r A.off refl; low = amount r A.mlo refl; high = amount r A.mhi refl; sign = line r (item_at items 53) (o.selected.meets 53) refl },
+                tt,
+              ),
+            ),
+          ),
+        ),
+      ),
+    ),
+  ),
+)
 
 lhu : Each (λ j. Says kinds.Lhu (2 * j)) 4
 unfolding kind_number
-lhu =
-    (λ x o. let r = row x 6 0 o in record { number = amount r A.kind refl; offset = amount r A.off refl; low = amount r A.mlo refl; high = amount r A.mhi refl; sign = line r (item_at items 53) (o.selected.meets 53) refl },
-    (λ x o. let r = row x 6 2 o in record { number = amount r A.kind refl; offset = amount r A.off refl; low = amount r A.mlo refl; high = amount r A.mhi refl; sign = line r (item_at items 53) (o.selected.meets 53) refl },
-    (λ x o. let r = row x 6 4 o in record { number = amount r A.kind refl; offset = amount r A.off refl; low = amount r A.mlo refl; high = amount r A.mhi refl; sign = line r (item_at items 53) (o.selected.meets 53) refl },
-    (λ x o. let r = row x 6 6 o in record { number = amount r A.kind refl; offset = amount r A.off refl; low = amount r A.mlo refl; high = amount r A.mhi refl; sign = line r (item_at items 53) (o.selected.meets 53) refl },
-    tt))))
+lhu = (
+  λ x o. let r = row x 6 0 o in record { number = amount r A.kind refl; offset = amount r A.off refl; low = amount r A.mlo refl; high = amount r A.mhi refl; sign = line r (item_at items 53) (o.selected.meets 53) refl },
+  (
+    λ x o. let r = row x 6 2 o in record { number = amount r A.kind refl; offset = amount r A.off refl; low = amount r A.mlo refl; high = amount r A.mhi refl; sign = line r (item_at items 53) (o.selected.meets 53) refl },
+    (
+      λ x o. let r = row x 6 4 o in record { number = amount r A.kind refl; offset = amount r A.off refl; low = amount r A.mlo refl; high = amount r A.mhi refl; sign = line r (item_at items 53) (o.selected.meets 53) refl },
+      (
+        λ x o. let r = row x 6 6 o in record { number = amount r A.kind refl; offset = amount r A.off refl; low = amount r A.mlo refl; high = amount r A.mhi refl; sign = line r (item_at items 53) (o.selected.meets 53) refl },
+        tt,
+      ),
+    ),
+  ),
+)
 
 lwu : Each (λ j. Says kinds.Lwu (4 * j)) 2
 unfolding kind_number
-lwu =
-    (λ x o. let r = row x 7 0 o in record { number = amount r A.kind refl; offset = amount r A.off refl; low = amount r A.mlo refl; high = amount r A.mhi refl; sign = line r (item_at items 53) (o.selected.meets 53) refl },
-    (λ x o. let r = row x 7 4 o in record { number = amount r A.kind refl; offset = amount r A.off refl; low = amount r A.mlo refl; high = amount r A.mhi refl; sign = line r (item_at items 53) (o.selected.meets 53) refl },
-    tt))
+lwu = (
+  λ x o. let r = row x 7 0 o in record { number = amount r A.kind refl; offset = amount r A.off refl; low = amount r A.mlo refl; high = amount r A.mhi refl; sign = line r (item_at items 53) (o.selected.meets 53) refl },
+  (
+    λ x o. let r = row x 7 4 o in record { number = amount r A.kind refl; offset = amount r A.off refl; low = amount r A.mlo refl; high = amount r A.mhi refl; sign = line r (item_at items 53) (o.selected.meets 53) refl },
+    tt,
+  ),
+)
 
 sb : Each (λ j. Says kinds.Sb (1 * j)) 8
 unfolding kind_number
-sb =
-    (λ x o. let r = row x 8 0 o in record { number = amount r A.kind refl; offset = amount r A.off refl; low = written _ _ _ _ (number r A.mlo refl (omega arith)) (omega arith); high = written _ _ _ _ (number r A.mhi refl (omega arith)) (omega arith); sign = line r (item_at items 53) (o.selected.meets 53) refl },
-    (λ x o. let r = row x 8 1 o in record { number = amount r A.kind refl; offset = amount r A.off refl; low = written _ _ _ _ (number r A.mlo refl (omega arith)) (omega arith); high = written _ _ _ _ (number r A.mhi refl (omega arith)) (omega arith); sign = line r (item_at items 53) (o.selected.meets 53) refl },
-    (λ x o. let r = row x 8 2 o in record { number = amount r A.kind refl; offset = amount r A.off refl; low = written _ _ _ _ (number r A.mlo refl (omega arith)) (omega arith); high = written _ _ _ _ (number r A.mhi refl (omega arith)) (omega arith); sign = line r (item_at items 53) (o.selected.meets 53) refl },
-    (λ x o. let r = row x 8 3 o in record { number = amount r A.kind refl; offset = amount r A.off refl; low = written _ _ _ _ (number r A.mlo refl (omega arith)) (omega arith); high = written _ _ _ _ (number r A.mhi refl (omega arith)) (omega arith); sign = line r (item_at items 53) (o.selected.meets 53) refl },
-    (λ x o. let r = row x 8 4 o in record { number = amount r A.kind refl; offset = amount r A.off refl; low = written _ _ _ _ (number r A.mlo refl (omega arith)) (omega arith); high = written _ _ _ _ (number r A.mhi refl (omega arith)) (omega arith); sign = line r (item_at items 53) (o.selected.meets 53) refl },
-    (λ x o. let r = row x 8 5 o in record { number = amount r A.kind refl; offset = amount r A.off refl; low = written _ _ _ _ (number r A.mlo refl (omega arith)) (omega arith); high = written _ _ _ _ (number r A.mhi refl (omega arith)) (omega arith); sign = line r (item_at items 53) (o.selected.meets 53) refl },
-    (λ x o. let r = row x 8 6 o in record { number = amount r A.kind refl; offset = amount r A.off refl; low = written _ _ _ _ (number r A.mlo refl (omega arith)) (omega arith); high = written _ _ _ _ (number r A.mhi refl (omega arith)) (omega arith); sign = line r (item_at items 53) (o.selected.meets 53) refl },
-    (λ x o. let r = row x 8 7 o in record { number = amount r A.kind refl; offset = amount r A.off refl; low = written _ _ _ _ (number r A.mlo refl (omega arith)) (omega arith); high = written _ _ _ _ (number r A.mhi refl (omega arith)) (omega arith); sign = line r (item_at items 53) (o.selected.meets 53) refl },
-    tt))))))))
+sb = (
+  λ x o. let r = row x 8 0 o in record { number = amount r A.kind refl; offset = amount r A.off refl; low = written _ _ _ _ (number r A.mlo refl (omega arith)) (omega arith); high = written _ _ _ _ (number r A.mhi refl (omega arith)) (omega arith); sign = line r (item_at items 53) (o.selected.meets 53) refl },
+  (
+    λ x o. let r = row x 8 1 o in record { number = amount r A.kind refl; offset = amount r A.off refl; low = written _ _ _ _ (number r A.mlo refl (omega arith)) (omega arith); high = written _ _ _ _ (number r A.mhi refl (omega arith)) (omega arith); sign = line r (item_at items 53) (o.selected.meets 53) refl },
+    (
+      λ x o. let r = row x 8 2 o in record { number = amount r A.kind refl; offset = amount r A.off refl; low = written _ _ _ _ (number r A.mlo refl (omega arith)) (omega arith); high = written _ _ _ _ (number r A.mhi refl (omega arith)) (omega arith); sign = line r (item_at items 53) (o.selected.meets 53) refl },
+      (
+        λ x o. let r = row x 8 3 o in record { number = amount r A.kind refl; offset = amount r A.off refl; low = written _ _ _ _ (number r A.mlo refl (omega arith)) (omega arith); high = written _ _ _ _ (number r A.mhi refl (omega arith)) (omega arith); sign = line r (item_at items 53) (o.selected.meets 53) refl },
+        (
+          λ x o. let r = row x 8 4 o in record { number = amount r A.kind refl; offset = amount r A.off refl; low = written _ _ _ _ (number r A.mlo refl (omega arith)) (omega arith); high = written _ _ _ _ (number r A.mhi refl (omega arith)) (omega arith); sign = line r (item_at items 53) (o.selected.meets 53) refl },
+          (
+            λ x o. let r = row x 8 5 o in record { number = amount r A.kind refl; offset = amount r A.off refl; low = written _ _ _ _ (number r A.mlo refl (omega arith)) (omega arith); high = written _ _ _ _ (number r A.mhi refl (omega arith)) (omega arith); sign = line r (item_at items 53) (o.selected.meets 53) refl },
+            (
+              λ x o. let r = row x 8 6 o in record { number = amount r A.kind refl; offset = amount r A.off refl; low = written _ _ _ _ (number r A.mlo refl (omega arith)) (omega arith); high = written _ _ _ _ (number r A.mhi refl (omega arith)) (omega arith); sign = line r (item_at items 53) (o.selected.meets 53) refl },
+              (
+                λ x o. let r = row x 8 7 o in record { number = amount r A.kind refl; offset = amount r A.off refl; low = written _ _ _ _ (number r A.mlo refl (omega arith)) (omega arith); high = written _ _ _ _ (number r A.mhi refl (omega arith)) (omega arith); sign = line r (item_at items 53) (o.selected.meets 53) refl },
+                tt,
+              ),
+            ),
+          ),
+        ),
+      ),
+    ),
+  ),
+)
 
 sh : Each (λ j. Says kinds.Sh (2 * j)) 4
 unfolding kind_number
-sh =
-    (λ x o. let r = row x 9 0 o in record { number = amount r A.kind refl; offset = amount r A.off refl; low = written _ _ _ _ (number r A.mlo refl (omega arith)) (omega arith); high = written _ _ _ _ (number r A.mhi refl (omega arith)) (omega arith); sign = line r (item_at items 53) (o.selected.meets 53) refl },
-    (λ x o. let r = row x 9 2 o in record { number = amount r A.kind refl; offset = amount r A.off refl; low = written _ _ _ _ (number r A.mlo refl (omega arith)) (omega arith); high = written _ _ _ _ (number r A.mhi refl (omega arith)) (omega arith); sign = line r (item_at items 53) (o.selected.meets 53) refl },
-    (λ x o. let r = row x 9 4 o in record { number = amount r A.kind refl; offset = amount r A.off refl; low = written _ _ _ _ (number r A.mlo refl (omega arith)) (omega arith); high = written _ _ _ _ (number r A.mhi refl (omega arith)) (omega arith); sign = line r (item_at items 53) (o.selected.meets 53) refl },
-    (λ x o. let r = row x 9 6 o in record { number = amount r A.kind refl; offset = amount r A.off refl; low = written _ _ _ _ (number r A.mlo refl (omega arith)) (omega arith); high = written _ _ _ _ (number r A.mhi refl (omega arith)) (omega arith); sign = line r (item_at items 53) (o.selected.meets 53) refl },
-    tt))))
+sh = (
+  λ x o. let r = row x 9 0 o in record { number = amount r A.kind refl; offset = amount r A.off refl; low = written _ _ _ _ (number r A.mlo refl (omega arith)) (omega arith); high = written _ _ _ _ (number r A.mhi refl (omega arith)) (omega arith); sign = line r (item_at items 53) (o.selected.meets 53) refl },
+  (
+    λ x o. let r = row x 9 2 o in record { number = amount r A.kind refl; offset = amount r A.off refl; low = written _ _ _ _ (number r A.mlo refl (omega arith)) (omega arith); high = written _ _ _ _ (number r A.mhi refl (omega arith)) (omega arith); sign = line r (item_at items 53) (o.selected.meets 53) refl },
+    (
+      λ x o. let r = row x 9 4 o in record { number = amount r A.kind refl; offset = amount r A.off refl; low = written _ _ _ _ (number r A.mlo refl (omega arith)) (omega arith); high = written _ _ _ _ (number r A.mhi refl (omega arith)) (omega arith); sign = line r (item_at items 53) (o.selected.meets 53) refl },
+      (
+        λ x o. let r = row x 9 6 o in record { number = amount r A.kind refl; offset = amount r A.off refl; low = written _ _ _ _ (number r A.mlo refl (omega arith)) (omega arith); high = written _ _ _ _ (number r A.mhi refl (omega arith)) (omega arith); sign = line r (item_at items 53) (o.selected.meets 53) refl },
+        tt,
+      ),
+    ),
+  ),
+)
 
 sw : Each (λ j. Says kinds.Sw (4 * j)) 2
 unfolding kind_number
-sw =
-    (λ x o. let r = row x 10 0 o in record { number = amount r A.kind refl; offset = amount r A.off refl; low = written _ _ _ _ (number r A.mlo refl (omega arith)) (omega arith); high = written _ _ _ _ (number r A.mhi refl (omega arith)) (omega arith); sign = line r (item_at items 53) (o.selected.meets 53) refl },
-    (λ x o. let r = row x 10 4 o in record { number = amount r A.kind refl; offset = amount r A.off refl; low = written _ _ _ _ (number r A.mlo refl (omega arith)) (omega arith); high = written _ _ _ _ (number r A.mhi refl (omega arith)) (omega arith); sign = line r (item_at items 53) (o.selected.meets 53) refl },
-    tt))
+sw = (
+  λ x o. let r = row x 10 0 o in record { number = amount r A.kind refl; offset = amount r A.off refl; low = written _ _ _ _ (number r A.mlo refl (omega arith)) (omega arith); high = written _ _ _ _ (number r A.mhi refl (omega arith)) (omega arith); sign = line r (item_at items 53) (o.selected.meets 53) refl },
+  (
+    λ x o. let r = row x 10 4 o in record { number = amount r A.kind refl; offset = amount r A.off refl; low = written _ _ _ _ (number r A.mlo refl (omega arith)) (omega arith); high = written _ _ _ _ (number r A.mhi refl (omega arith)) (omega arith); sign = line r (item_at items 53) (o.selected.meets 53) refl },
+    tt,
+  ),
+)
 
 sd : Each (λ j. Says kinds.Sd (8 * j)) 1
 unfolding kind_number
-sd =
-    (λ x o. let r = row x 11 0 o in record { number = amount r A.kind refl; offset = amount r A.off refl; low = written _ _ _ _ (number r A.mlo refl (omega arith)) (omega arith); high = written _ _ _ _ (number r A.mhi refl (omega arith)) (omega arith); sign = line r (item_at items 53) (o.selected.meets 53) refl },
-    tt)
+sd = (
+  λ x o. let r = row x 11 0 o in record { number = amount r A.kind refl; offset = amount r A.off refl; low = written _ _ _ _ (number r A.mlo refl (omega arith)) (omega arith); high = written _ _ _ _ (number r A.mhi refl (omega arith)) (omega arith); sign = line r (item_at items 53) (o.selected.meets 53) refl },
+  tt,
+)
 
 says : (k : Kind) → Each (λ j. Says k (width k * j)) (8 / width k)
 says kinds.Lb = lb

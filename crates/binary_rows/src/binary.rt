@@ -36,10 +36,7 @@ pub struct Computed {
 fn subtracts(op: OpNo) -> bool
     ensures { result ≡ subtracts op }
 {
-    matches!(
-        op,
-        OpNo::Sub | OpNo::Ltu | OpNo::Lt | OpNo::Eq | OpNo::Subw
-    )
+    matches!(op, OpNo::Sub | OpNo::Ltu | OpNo::Lt | OpNo::Eq | OpNo::Subw)
 }
 
 #[inline(always)]

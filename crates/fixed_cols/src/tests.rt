@@ -8,10 +8,7 @@ use zk_layout::Namespace;
 
 // At 0: a branch to -4 that isn't taken, x17 = 93, ECALL.
 fn branch_below_zero(alloc: Global) -> Result<Image, AllocError> {
-    let bytes = [
-        0xE3, 0x1E, 0, 0xFE, 0x93, 0x08, 0xD0, 0x05, 0x73, 0, 0, 0,
-    ]
-    .to_vec(alloc)?;
+    let bytes = [0xE3, 0x1E, 0, 0xFE, 0x93, 0x08, 0xD0, 0x05, 0x73, 0, 0, 0].to_vec(alloc)?;
     bytes_law(&bytes);
     let mut segments = Vec::new(alloc);
     segments.push(Segment {
