@@ -15,7 +15,6 @@ use Rattle.machine_text.specs.Main.{items}
 use Rattle.rv_model.specs.Image.{Img, IsLoadable}
 use Rattle.rv_model.specs.Run.{state_at, step_at, RunsTo}
 use Rattle.rv_model.specs.declared.answer.Public.{Public}
-use Rattle.min_trace.specs.Bounds.{HasBytes}
 use Rattle.min_trace.specs.Record.{record_at}
 use Rattle.step_rows.specs.MainRow.{main_row}
 use Rattle.air_main.specs.Constants.{MainConstants}
@@ -94,12 +93,12 @@ nothing a b d e h k = ap (λ z. mul_mod z b) h ∙ (none b e ∙ ap (λ z. mul_m
     none : (b e : ℕ) → mul_mod 0 b ≡ mul_mod 0 e
     none b e = omega arith
 
-module _ (ranges : Ranges) (bounds : Bounds) (ns : List Namespace) (c : Columns) (height : ℕ) (image : Img) (n : ℕ) (public : Public) (has : HasMain ns c height image) (k : MainConstants image height c) (loadable : IsLoadable image) (bytes : HasBytes image) (run : RunsTo image n public) (room : n ≤ c.instances 6 * c.rows 6) (table : IsMainOf c image n) where
+module _ (ranges : Ranges) (bounds : Bounds) (ns : List Namespace) (c : Columns) (height : ℕ) (image : Img) (n : ℕ) (public : Public) (has : HasMain ns c height image) (k : MainConstants image height c) (loadable : IsLoadable image) (run : RunsTo image n public) (room : n ≤ c.instances 6 * c.rows 6) (table : IsMainOf c image n) where
   abbrev place : ℕ → ℕ → ℕ
   place i r = i * c.rows 6 + r
 
   steps : (j : ℕ) → j < n → HasRow image j
-  steps = has_row image n public loadable run bytes bounds
+  steps = has_row image n public loadable run bounds
 
   sel_at : (i r : ℕ) → i < c.instances 6 → r < c.rows 6 → place i r < n → c.at 6 i 8 r ≡ 1
   sel_at i r hi hr l = table.row i r hi hr l 0 (omega arith)
@@ -215,5 +214,5 @@ module _ (ranges : Ranges) (bounds : Bounds) (ns : List Namespace) (c : Columns)
       ] ∙ sym (ap (λ n. map (value n.items (around ns c 6 (i + 1) 0)) (Main.sel ∷ (Main.sel ⊗ Main.pc) ∷ [])) has.main))
 
 pub main_filled : Ranges → Bounds → MainFilled
-main_filled ranges bounds ns c height image n public has k loadable bytes run room table =
-    (meets ranges bounds ns c height image n public has k loadable bytes run room table, joins ns c 6 1 4 5 (Main.go ∷ (Main.go ⊗ Main.nx) ∷ []) (Main.sel ∷ (Main.sel ⊗ Main.pc) ∷ []) k.joints (agree ranges bounds ns c height image n public has k loadable bytes run room table))
+main_filled ranges bounds ns c height image n public has k loadable run room table =
+    (meets ranges bounds ns c height image n public has k loadable run room table, joins ns c 6 1 4 5 (Main.go ∷ (Main.go ⊗ Main.nx) ∷ []) (Main.sel ∷ (Main.sel ⊗ Main.pc) ∷ []) k.joints (agree ranges bounds ns c height image n public has k loadable run room table))

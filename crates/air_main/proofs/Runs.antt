@@ -9,7 +9,7 @@ use Rattle.rv_model.specs.Image.{Img, Seg, IsSegment, IsLoadable, fetch, runs_at
 use Rattle.rv_model.specs.State.{State, Answer, Next, Halt, Fault, step, executed_fetch}
 use Rattle.rv_model.specs.Run.{state_at, step_at, moved, IsNext, RunsTo}
 use Rattle.rv_model.specs.declared.answer.Public.{Public}
-use Rattle.min_trace.specs.Bounds.{HasBytes, IsRecord}
+use Rattle.min_trace.specs.Bounds.{IsRecord}
 use Rattle.min_trace.specs.Chunk.{IsStep}
 use Rattle.min_trace.specs.Record.{record_at, onward}
 use Rattle.air_main.specs.Rows.{HasRow}
@@ -18,7 +18,7 @@ use Rattle.air_main.proofs.Recorded.{Ends}
 
 -- what min_trace's law says of the numbers of a run
 abbrev pub Bounds : Type 0
-Bounds = (image : Img) → IsLoadable image → HasBytes image → (j : ℕ) → IsStep (step_at image j) → IsRecord (record_at image j)
+Bounds = (image : Img) → IsLoadable image → (j : ℕ) → IsStep (step_at image j) → IsRecord (record_at image j)
 
 -- a word that is fetched lies in memory
 
@@ -103,10 +103,10 @@ module _ (image : Img) (n : ℕ) (public : Public) (loadable : IsLoadable image)
   unfolding record_at
   next_off j h = ap onward (halts_last j h)
 
-  pub has_row : HasBytes image → Bounds → (j : ℕ) → j < n → HasRow image j
-  has_row bytes bounds j l =
-      let b = bounds image loadable bytes j (is_step j l) in
+  pub has_row : Bounds → (j : ℕ) → j < n → HasRow image j
+  has_row bounds j l =
+      let b = bounds image loadable j (is_step j l) in
       record { below = pc_below j l; ends = ends j l; a_fits = b.a; s_fits = b.s; c_fits = b.c }
 
 pub run_has_rows : Bounds → RunHasRows
-run_has_rows bounds image n public loadable bytes run j l = has_row image n public loadable run bytes bounds j l
+run_has_rows bounds image n public loadable run j l = has_row image n public loadable run bounds j l
