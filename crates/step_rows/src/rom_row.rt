@@ -258,15 +258,33 @@ impl RomRow {
             }
             Instr::Jal { rd, imm } => RomRow::jal(pc, rd, imm),
             Instr::Jalr { rd, rs1, imm } => RomRow::jalr(pc, rd, rs1, imm),
-            Instr::Branch { cond, rs1, rs2, imm } => RomRow::branch(pc, cond, rs1, rs2, imm),
+            Instr::Branch {
+                cond,
+                rs1,
+                rs2,
+                imm,
+            } => RomRow::branch(pc, cond, rs1, rs2, imm),
             Instr::Load { kind, rd, rs1, imm } => RomRow::load(pc, kind, rd, rs1, imm),
-            Instr::Store { kind, rs1, rs2, imm } => RomRow::store(pc, kind, rs1, rs2, imm),
-            Instr::OpImm { op, rd, rs1, imm, uw } => {
-                RomRow::immediate(pc, op, rs1, imm, uw).writing(rd)
-            }
-            Instr::Op { op, rd, rs1, rs2, uw } => {
-                RomRow::registers(pc, op, rs1, rs2, uw).writing(rd)
-            }
+            Instr::Store {
+                kind,
+                rs1,
+                rs2,
+                imm,
+            } => RomRow::store(pc, kind, rs1, rs2, imm),
+            Instr::OpImm {
+                op,
+                rd,
+                rs1,
+                imm,
+                uw,
+            } => { RomRow::immediate(pc, op, rs1, imm, uw).writing(rd) }
+            Instr::Op {
+                op,
+                rd,
+                rs1,
+                rs2,
+                uw,
+            } => { RomRow::registers(pc, op, rs1, rs2, uw).writing(rd) }
             Instr::Ecall => RomRow::ecall(pc),
             Instr::Fence | Instr::Ebreak => RomRow::blank(pc, OpNo::Add),
         }
