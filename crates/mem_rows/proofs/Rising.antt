@@ -60,9 +60,14 @@ register_rises j None = omega arith
 register_rises j (Some w) = ((omega arith), (omega arith))
 
 step_rises : (r : StepRecord) → Rising (SLOTS * r.step + 1) (of_step r) (SLOTS * r.step + 8)
-step_rises r =
-    ((omega arith), ((omega arith), rising_append (SLOTS * r.step + 2 + 1) (of_memory (is_store r.instr) r.step r.mem) (SLOTS * r.step + 5) (of_register r.step r.rd) (SLOTS * r.step + 8)
-    (rising_from (SLOTS * r.step + 3) (SLOTS * r.step + 2 + 1) (of_memory (is_store r.instr) r.step r.mem) (SLOTS * r.step + 5) (omega arith) (memory_rises (is_store r.instr) r.step r.mem)) (register_rises r.step r.rd)))
+step_rises r = (
+  (omega arith),
+  (
+    (omega arith),
+    rising_append (SLOTS * r.step + 2 + 1) (of_memory (is_store r.instr) r.step r.mem) (SLOTS * r.step + 5) (of_register r.step r.rd) (SLOTS * r.step + 8)
+        (rising_from (SLOTS * r.step + 3) (SLOTS * r.step + 2 + 1) (of_memory (is_store r.instr) r.step r.mem) (SLOTS * r.step + 5) (omega arith) (memory_rises (is_store r.instr) r.step r.mem)) (register_rises r.step r.rd),
+  ),
+)
 
 number : (image : Img) (j : ℕ) → (record_at image j).step ≡ j
 unfolding record_at

@@ -84,8 +84,10 @@ pub record IsOf (r : StepRecord) (s : State) : Type 0 where
 step_reads : (r : StepRecord) (s : State) → IsOf r s → Reads (held_in s) (of_step r)
 step_reads r s is = (
   (λ e. is.one ∙ sym (held_register s.word s.x r.rs1)),
-  ((λ e. is.two ∙ sym (held_register s.word s.x r.rs2)),
-  reads_append (held_in s) (of_memory (is_store r.instr) r.step r.mem) (of_register r.step r.rd) (memory_reads s.word s.x (is_store r.instr) r.step r.mem is.acts is.old) (register_reads (after_all (held_in s) (of_memory (is_store r.instr) r.step r.mem)) r.step r.rd)),
+  (
+    (λ e. is.two ∙ sym (held_register s.word s.x r.rs2)),
+    reads_append (held_in s) (of_memory (is_store r.instr) r.step r.mem) (of_register r.step r.rd) (memory_reads s.word s.x (is_store r.instr) r.step r.mem is.acts is.old) (register_reads (after_all (held_in s) (of_memory (is_store r.instr) r.step r.mem)) r.step r.rd),
+  ),
 )
 
 step_after : (r : StepRecord) (s : State) → IsOf r s → Same (after_all (held_in s) (of_step r)) (held_in (after r s))
@@ -107,8 +109,7 @@ steps_read image n are (suc m) first le f same =
     let more : first + 1 + m ≡ first + suc m = omega arith in
     let onward : Same (after_all f (of_step (record_at image first))) (held_in (state_at image (first + 1))) =
     λ k. same_after f (held_in (state_at image first)) (of_step (record_at image first)) same k ∙ step_after (record_at image first) (state_at image first) is k ∙ ap (λ t. held_in t k) (sym (are.on first (omega arith))) in
-    let rest = steps_read image n are m (first + 1) (omega arith) (after_all f (of_step (record_at image first))) onward in
-    (
+    let rest = steps_read image n are m (first + 1) (omega arith) (after_all f (of_step (record_at image first))) onward in (
       reads_append f (of_step (record_at image first)) (of_steps (records_between image (first + 1) m)) (same_reads (held_in (state_at image first)) f (of_step (record_at image first)) (λ k. sym (same k)) (step_reads (record_at image first) (state_at image first) is)) rest.0,
       λ k. after_append f (of_step (record_at image first)) (of_steps (records_between image (first + 1) m)) k ∙ rest.1 k ∙ ap (λ j. held_in (state_at image j) k) more,
     )

@@ -13,9 +13,13 @@ pub const SLOTS: u64 = 8;
 
 /// The slots of a step's accesses: rs1 and rs2 are read, then memory is read and written, then rd is written.
 pub const READS_RS1: u64 = 1;
+
 pub const READS_RS2: u64 = 2;
+
 pub const READS_MEMORY: u64 = 3;
+
 pub const WRITES_MEMORY: u64 = 4;
+
 pub const WRITES_RD: u64 = 5;
 
 /// The time of the final reads, which is past all steps: their numbers have 32 bits.
