@@ -82,8 +82,9 @@ fn n_of(n: u8, w: u128) -> u64
     if kn_of(n, w) == 0 {
         0
     } else {
-        (wide_digit(w, 0) + wide_digit(w, 1) + wide_digit(w, 2) + wide_digit(w, 3))
-            .saturating_sub(1)
+        (wide_digit(w, 0) + wide_digit(w, 1) + wide_digit(w, 2) + wide_digit(w, 3)).saturating_sub(
+            1,
+        )
     }
 }
 
@@ -164,7 +165,12 @@ fn low_turn(made: &Made) -> u64
         return 0;
     }
     let size = result_size(o.number, made.x, made.r, made.w);
-    k1_of(result_sign(o.number, o.s, o.t), size, made.z, kn_of(o.number, made.w))
+    k1_of(
+        result_sign(o.number, o.s, o.t),
+        size,
+        made.z,
+        kn_of(o.number, made.w),
+    )
 }
 
 #[inline(always)]
@@ -177,7 +183,12 @@ fn high_turn(made: &Made) -> u64
         return 0;
     }
     let size = result_size(o.number, made.x, made.r, made.w);
-    k2_of(result_sign(o.number, o.s, o.t), size, made.z, kn_of(o.number, made.w))
+    k2_of(
+        result_sign(o.number, o.s, o.t),
+        size,
+        made.z,
+        kn_of(o.number, made.w),
+    )
 }
 
 impl Cell<Made> for ArithCell {
