@@ -9,7 +9,7 @@ use Rattle.rv_model.specs.Image.{Img, initial_word}
 use Rattle.mem_rows.specs.declared.access.Access.{Access}
 use Rattle.rv_model.specs.declared.machine.TheConstants.{MEMORY_WORDS}
 use Rattle.step_rows.specs.declared.doubleword.Doubleword.{Doubleword}
-use Rattle.step_rows.specs.Initial.{unless_zero, initial_doublewords}
+use Rattle.step_rows.specs.Initial.{unless_zero, doublewords, initial_doublewords}
 use Rattle.mem_rows.specs.Accesses.{writes, first_write, first_writes, accesses_to}
 use Rattle.mem_rows.specs.Order.{of_key}
 use Rattle.mem_rows.specs.Kept.{Adds, KeepsTo}
@@ -102,12 +102,13 @@ some_writes image (k ∷ ks) =
     ] in
     found (initial_word image k == 0) refl
 
-all_words : 2 ^ 29 ≡ MEMORY_WORDS
+all_words : doublewords ≡ MEMORY_WORDS
+unfolding doublewords
 all_words = refl
 
 pub all_writes : (image : Img) → first_writes image ≡ writes_from image 0 MEMORY_WORDS
 unfolding writes_from initial_doublewords
-all_writes image = some_writes image (range_with_len 0 (2 ^ 29)) ∙ ap (λ n. flat_map (write_at image) (range_with_len 0 n)) all_words
+all_writes image = some_writes image (range_with_len 0 doublewords) ∙ ap (λ n. flat_map (write_at image) (range_with_len 0 n)) all_words
 
 -- the accesses before the first step
 none_more : (image : Img) → accesses_to image 0 ≡ first_writes image
