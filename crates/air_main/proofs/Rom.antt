@@ -10,7 +10,7 @@ use Rattle.rv_word.specs.declared.instr.Instr.TheVariants.{Lui, Auipc, Jal, Jalr
 use Rattle.rv_word.specs.Is.{decoded}
 use Rattle.rv_model.specs.Image.{Img, fetch}
 use Rattle.rv_model.specs.Code.{instr_of}
-use Rattle.step_rows.specs.Rom.{rom_row, row_unless_break, row_at, rom_rows}
+use Rattle.step_rows.specs.Rom.{rom_row, row_unless_break, row_at, rom_rows, words}
 use Rattle.step_rows.specs.declared.rom_row.RomRow.{RomRow}
 
 -- the row is that of an executable word that is an instruction other than EBREAK
@@ -110,12 +110,16 @@ number_below m i x h =
     let e = same i x (sym (numbers m i (omega arith)) ∙ h) in
     omega arith
 
+all_words : words ≡ 2 ^ 30
+unfolding words
+all_words = refl
+
 -- each row is that of an instruction
 pub rom_each : (image : Img) (k : ℕ) (row : RomRow) → slice_get (rom_rows image) k ≡ Some row → RowOf image row
 unfolding rom_rows
 rom_each image k row h =
-    let e = from_list (λ k. row_at image (4 * k)) (range_with_len 0 (2 ^ 30)) k row h in
-    of_row image e.number row (number_below (2 ^ 30) e.place e.number e.there) e.gives
+    let e = from_list (λ k. row_at image (4 * k)) (range_with_len 0 words) k row h in
+    of_row image e.number row (subst (λ n. e.number < n) all_words (number_below words e.place e.number e.there)) e.gives
 
 whole : (pc : ℕ) → pc % 4 ≡ 0 → 4 * (pc / 4) ≡ pc
 whole pc h = omega arith
@@ -131,4 +135,4 @@ rom_all image row h =
     let l = quarter h.pc h.below in
     let e : row_at image (4 * i) ≡ Some row =
     ap (row_at image) (whole h.pc (fetched_even image h.pc h.word h.fetched)) ∙ (ap (λ o. row_unless_break h.pc (instr_of o)) h.fetched ∙ (ap (row_unless_break h.pc) h.decoded ∙ (row_is h.pc h.instr h.no_break ∙ ap Some (sym h.is)))) in
-    kept (λ k. row_at image (4 * k)) (range_with_len 0 (2 ^ 30)) i i row (numbers (2 ^ 30) i l) e
+    kept (λ k. row_at image (4 * k)) (range_with_len 0 words) i i row (numbers words i (subst (λ n. i < n) (sym all_words) l)) e
