@@ -18,7 +18,7 @@ use Rattle.zk_layout.specs.Namespaces.{namespace_number}
 use Rattle.zk_layout.specs.declared.namespace.Namespace.TheVariants as spaces
 use Rattle.rv_model.specs.Image.{Img, initial_word}
 use Rattle.step_rows.specs.Words.{low, high}
-use Rattle.step_rows.specs.Initial.{initial_doublewords, unless_zero}
+use Rattle.step_rows.specs.Initial.{doublewords, initial_doublewords, unless_zero}
 use Rattle.step_rows.specs.declared.doubleword.Doubleword.{Doubleword}
 use Rattle.pil_ast.specs.Columns.{Columns}
 use Rattle.fixed_cols.specs.declared.sizes.Sizes.{Sizes}
@@ -198,7 +198,14 @@ all_below m = λ k d l.
     let e = get_or-range_with_len 0 m k d (omega arith) in
     omega arith
 
-pub init_reach : InitReach
+many : doublewords ≡ 2 ^ 29
+unfolding doublewords
+many = refl
+
+in_memory : (image : Img) → All (λ (d : Doubleword). d.number < doublewords) (initial_doublewords image)
 unfolding initial_doublewords
-init_reach image =
-    given (λ k. k < 2 ^ 29) (λ d. d.number < 2 ^ 29) (λ k. unless_zero k (initial_word image k)) (λ k d h e. subst (λ n. n < 2 ^ 29) (sym (number_is k (initial_word image k) d e)) h) (range_with_len 0 (2 ^ 29)) (all_below (2 ^ 29))
+in_memory image =
+    given (λ k. k < doublewords) (λ d. d.number < doublewords) (λ k. unless_zero k (initial_word image k)) (λ k d h e. subst (λ n. n < doublewords) (sym (number_is k (initial_word image k) d e)) h) (range_with_len 0 doublewords) (all_below doublewords)
+
+pub init_reach : InitReach
+init_reach image = subst (λ n. All (λ (d : Doubleword). d.number < n) (initial_doublewords image)) many (in_memory image)
