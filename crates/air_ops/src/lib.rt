@@ -10,6 +10,3 @@ mod text;
 
 pub use laws::{binary_laws, shift_laws};
 pub use text::spaces;
-
-#[cfg(test)]
-mod tests;
