@@ -32,11 +32,11 @@ abbrev lists : List Tuples
 lists = Main.accesses
 
 -- each of a list
-abbrev EachOf : (Tuples → Type 0) → List Tuples → Type 0
+abbrev pub EachOf : (Tuples → Type 0) → List Tuples → Type 0
 EachOf P [] = Unit {0}
 EachOf P (x ∷ xs) = P x × EachOf P xs
 
-each_of : (P : Tuples → Type 0) (xs : List Tuples) → EachOf P xs → (a : Tuples) (k : ℕ) → k < length xs → get_or xs k a ≡ a → P a
+pub each_of : (P : Tuples → Type 0) (xs : List Tuples) → EachOf P xs → (a : Tuples) (k : ℕ) → k < length xs → get_or xs k a ≡ a → P a
 each_of P [] h a k l e = absurd (omega arith)
 each_of P (x ∷ xs) h a zero l e = subst P e h.0
 each_of P (x ∷ xs) h a (suc k) l e = each_of P xs h.1 a k (omega arith) e
@@ -253,7 +253,7 @@ module _ (laws : MainLaws) (starts : StartLaws) (mem : MemLaws) (ns : List Names
   keys : All (λ d. d.number < 2 ^ 30) ds
   keys k d l = keys_below _ ((starts.initial image).each k d l).below
 
-  received : AsOften (map memory_tuple xs) (sent ns c Mem.access) × All InReach xs
+  pub received : AsOften (map memory_tuple xs) (sent ns c Mem.access) × All InReach xs
   received = mem.receives ns c lists ms ds a.init a.out main_often (a.stands.holds 73) reach keys
 
   -- the write behind each access

@@ -120,7 +120,7 @@ module _ (laws : MainLaws) (ns : List Namespace) (c : Columns) (n : ℕ) (image 
           let row = row_at items ns c 6 i r ((8, is 1) ∷ (28, is 0) ∷ []) has.canonical (sel, (halt, tt)) in
           let go : at_row ns c i r Main.go ≡ 1 = amount row Main.go refl in
           let on' : c.at 6 (i + 1) 8 0 ≡ 1 = subst (λ z. z ≡ 1) t.0 go in
-          let pc : at_row ns c i r Main.nx ≡ c.at 6 (i + 1) 9 0 = times_one _ _ _ _ t.1 go on' (small_value row Main.nx refl) (has.canonical 6 (i + 1) 9 0) in
+          let pc : at_row ns c i r Main.nx ≡ c.at 6 (i + 1) 9 0 = times_one (at_row ns c i r Main.go) (c.at 6 (i + 1) 8 0) (at_row ns c i r Main.nx) (c.at 6 (i + 1) 9 0) t.1 go on' (small_value row Main.nx refl) (has.canonical 6 (i + 1) 9 0) in
           let at = outer c j i r place e l in
           record {
             instance = i + 1;

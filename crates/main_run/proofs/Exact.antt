@@ -2,9 +2,11 @@
 use Rattle.std.proofs.Common.{ℕ, Bool, ◌≢◌, ◌<◌, ◌≤◌, ◌+◌, ◌*◌, List, refl, subst, ⊎_elim}
 use Rattle.std.proofs.lemmas.Bool.{cases_lt}
 use Rattle.std.proofs.Math.Nat.{mod-lt}
-use Rattle.pil_ast.specs.Term.{Namespace}
+use Rattle.pil_ast.specs.Term.{Namespace, item_at}
 use Rattle.pil_ast.specs.Columns.{Columns}
-use Rattle.pil_ast.specs.Value.{row_after}
+use Rattle.pil_ast.specs.Value.{around, row_after}
+use Rattle.pil_exact.specs.Exact.{HoldsExactly}
+use Rattle.machine_text.specs.Main
 use Rattle.gold.specs.declared.shapes.Profile.{Profile}
 use Rattle.machine_text.specs.Machine.{machine, main_rows}
 use Rattle.rv_model.specs.Image.{Img}
@@ -14,8 +16,7 @@ use Rattle.air_mem.specs.Access.{Access}
 use Rattle.main_run.specs.Chain.{IsPlace}
 use Rattle.main_run.specs.Bus.{accesses}
 use Rattle.main_run.specs.Run.{Supposed, Reads, Halted}
-use Rattle.main_run.specs.Whole.{Machine}
-use Rattle.main_run.specs.Exact.{NoWrapLaw}
+use Rattle.main_run.proofs.Known.{Machine}
 use Rattle.main_run.proofs.Place.{places_same}
 use Rattle.main_run.proofs.Laws.{MainLaws, StartLaws, MemLaws, TextLaws}
 use Rattle.main_run.proofs.Chain.{meets, fixed, told as told_of}
@@ -59,8 +60,9 @@ module _ (laws : MainLaws) (starts : StartLaws) (mem : MemLaws) (text : TextLaws
   sends : (i r : ℕ) → i < c.instances 6 → r < c.rows 6 → c.at 6 i 8 r ≢ 0 → RowSends ns c i r
   sends i r l k on = sends_at (i * c.rows 6 + r) i r (record { is_instance = l; is_row = k; is_number = refl }) on
 
-pub no_wrap_law : MainLaws → StartLaws → MemLaws → TextLaws → MainExact → NoWrapLaw
-no_wrap_law laws starts mem text exact q c image m i r l k =
+pub main_exact : (laws : MainLaws) (starts : StartLaws) (mem : MemLaws) (text : TextLaws) → MainExact → (q : Profile) (c : Columns) (image : Img) → Machine q c image
+    → (i r : ℕ) → i < c.instances 6 → r < c.rows 6 → (k : ℕ) → HoldsExactly Main.items (around (machine q) c 6 i r) (item_at Main.items k)
+main_exact laws starts mem text exact q c image m i r l k =
     let stands = (a laws starts mem text q c image m).stands in
     exact (machine q) c (main_rows q) image i r stands.has (fixed laws (machine q) c (main_rows q) image stands i r l k) (meets laws (machine q) c (main_rows q) image stands i r l k)
     (meets laws (machine q) c (main_rows q) image stands i (row_after (c.rows 6) r) l (after_below r (c.rows 6) stands.constants.joints.rows)) (sends laws starts mem text q c image m i r l k)

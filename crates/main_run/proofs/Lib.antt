@@ -7,5 +7,8 @@ pub mod Senders
 pub mod Bus
 pub mod Run
 pub mod Headline
+pub mod Tables
+pub mod Known
 pub mod Whole
 pub mod Exact
+pub mod Final

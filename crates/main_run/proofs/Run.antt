@@ -7,6 +7,7 @@ use Rattle.std.proofs.lemmas.List.{length-replicate, get_or-replicate}
 use Rattle.pil_ast.specs.Term.{Namespace}
 use Rattle.pil_ast.specs.Columns.{Columns}
 use Rattle.machine_text.specs.Main
+use Rattle.rv_model.specs.Align.{aligned}
 use Rattle.rv_model.specs.Image.{Img, initial_word}
 use Rattle.rv_model.specs.State.{State, Answer, Next, step, start}
 use Rattle.rv_model.specs.Run.{state_at, step_at, moved, IsNext}
@@ -14,12 +15,11 @@ use Rattle.air_main.specs.Step.{Limbs}
 use Rattle.air_main.specs.Law.{HasMain, Meets, Supposed as RowSupposed, IsStep, left, at_row}
 use Rattle.air_main.specs.Selected.{IsSelected}
 use Rattle.air_mem.specs.Access.{Access, IsEarlierWrite}
-use Rattle.image_rows.specs.Laws.{IsInitial, AreInitial}
+use Rattle.image_rows.specs.Laws.{IsInitial}
 use Rattle.step_rows.specs.Initial.{initial_doublewords}
 use Rattle.step_rows.specs.Words.{low, high}
 use Rattle.step_rows.specs.Tuples.{IsAccess}
 use Rattle.step_rows.specs.declared.doubleword.Doubleword.{Doubleword}
-use Rattle.pil_ast.specs.Holds.{tuple}
 use Rattle.pil_ast.specs.Value.{around, value}
 use Rattle.air_mem.specs.Lists.{initial_write}
 use Rattle.main_run.specs.Chain.{IsPlace}
@@ -39,7 +39,10 @@ limbs_of v h = record { lo_below = omega arith; hi_below = omega arith; is = ome
 
 -- the last two numbers of an access's tuple are limbs
 stored_below : (n off olo ohi slo shi mlo mhi : ℕ) → IsAccess (n ∷ off ∷ olo ∷ ohi ∷ slo ∷ shi ∷ mlo ∷ mhi ∷ []) → (mlo < 4294967296) × (mhi < 4294967296)
-stored_below n off olo ohi slo shi mlo mhi h = (limb_low _ _ (ap (λ t. slice_index t 6) h.is), limb_high _ _ (ap (λ t. slice_index t 7) h.is) h.result_fits)
+stored_below n off olo ohi slo shi mlo mhi h =
+    let l : mlo ≡ aligned h.kind h.off h.old h.value % 2 ^ 32 = ap (λ t. slice_index t 6) h.is in
+    let k : mhi ≡ aligned h.kind h.off h.old h.value / 2 ^ 32 = ap (λ t. slice_index t 7) h.is in
+    (limb_low mlo _ l, limb_high mhi _ k h.result_fits)
   where
     limb_low : (m v : ℕ) → m ≡ v % 2 ^ 32 → m < 4294967296
     limb_low m v e = omega arith

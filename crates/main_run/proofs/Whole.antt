@@ -1,11 +1,11 @@
--- From the lines of the whole text to the run.
+-- From what is known of the machine's tables to the run.
 use Rattle.std.proofs.Common.{ℕ, not, eqb, true, ◌≡◌, ◌≢◌, ◌<◌, ◌^◌, List, [], ◌∷◌, refl, sym, ap, subst, arith, ◌∙◌}
 use Rattle.std.proofs.lemmas.Bool.{ne_eqb}
 use Rattle.pil_ast.specs.Term.{Term, Namespace, item_at}
 use Rattle.pil_ast.specs.Columns.{Columns}
 use Rattle.pil_ast.specs.Value.{around, value, value_in}
 use Rattle.pil_ast.specs.Holds.{Holds, all_sent, times, tuple}
-use Rattle.pil_laws.proofs.Lines.{space_holds, EachHolds}
+use Rattle.pil_laws.proofs.Lines.{space_holds}
 use Rattle.pil_laws.proofs.Sums.{into_all, times_single}
 use Rattle.gold.specs.declared.shapes.Profile.{Profile}
 use Rattle.machine_text.specs.Machine.{machine, main_rows}
@@ -20,7 +20,7 @@ use Rattle.main_run.specs.Chain.{MainStands}
 use Rattle.main_run.specs.Bus.{accesses, BusSupposed}
 use Rattle.main_run.specs.Run.{Supposed}
 use Rattle.main_run.specs.Headline.{Headline}
-use Rattle.main_run.specs.Whole.{Machine, MachineLaw}
+use Rattle.main_run.proofs.Known.{Machine}
 use Rattle.main_run.proofs.Laws.{MainLaws, StartLaws, MemLaws, TextLaws}
 use Rattle.main_run.proofs.Bus.{run_bus_law}
 use Rattle.main_run.proofs.Headline.{headline_law}
@@ -30,7 +30,7 @@ module _ (laws : MainLaws) (starts : StartLaws) (mem : MemLaws) (text : TextLaws
   ns = machine q
 
   main_holds : (k : ℕ) → Holds ns c (item_at Main.items k)
-  main_holds = subst (λ n. EachHolds ns c n.items) m.main.main (space_holds ns c m.holds 6)
+  main_holds = subst (λ n. (k : ℕ) → Holds ns c (item_at n.items k)) m.main.main (space_holds ns c m.holds 6)
 
   stands : MainStands ns c (main_rows q) image
   stands = record { has = m.main; constants = m.main_constants; some = m.some; few = m.few; entry_below = starts.entry image m.loadable; holds = main_holds }
@@ -39,7 +39,7 @@ module _ (laws : MainLaws) (starts : StartLaws) (mem : MemLaws) (text : TextLaws
   has_mem = record { mem = (text.stands q).1; tables = m.main.tables; constants = m.mem_constants; canonical = m.main.canonical }
 
   mem_holds : MemHolds ns c
-  mem_holds = subst (λ n. EachHolds ns c n.items) (text.stands q).1 (space_holds ns c m.holds 7)
+  mem_holds = subst (λ n. (k : ℕ) → Holds ns c (item_at n.items k)) (text.stands q).1 (space_holds ns c m.holds 7)
 
   pub bus_supposed : BusSupposed ns c (main_rows q) image
   bus_supposed = record { stands = stands; mem = has_mem; mem_holds = mem_holds; init = m.init; out = m.out }
@@ -81,6 +81,3 @@ module _ (laws : MainLaws) (starts : StartLaws) (mem : MemLaws) (text : TextLaws
 
   pub whole : Headline ns c image
   whole = headline_law laws starts ns c (main_rows q) image (accesses ns c image) supposed (text.publics q c m.out)
-
-pub machine_law : MainLaws → StartLaws → MemLaws → TextLaws → MachineLaw
-machine_law laws starts mem text q c image m = whole laws starts mem text q c image m

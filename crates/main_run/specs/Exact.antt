@@ -1,17 +1,18 @@
--- No wrap in Main.
+-- And no identity of the machine wraps.
 use Rattle.std.specs.Prelude.{ℕ, ◌<◌}
-use Rattle.pil_ast.specs.Term.{item_at}
+use Rattle.pil_ast.specs.Term.{item_at, space_at}
 use Rattle.pil_ast.specs.Columns.{Columns}
+use Rattle.pil_ast.specs.Holds.{AllHold}
 use Rattle.pil_ast.specs.Value.{around}
 use Rattle.pil_exact.specs.Exact.{HoldsExactly}
-use Rattle.gold.specs.declared.shapes.Profile.{Profile}
+use Rattle.fixed_cols.specs.declared.sizes.Sizes.{Sizes}
 use Rattle.machine_text.specs.Machine.{machine}
-use Rattle.machine_text.specs.Main
-use Rattle.rv_model.specs.Image.{Img}
-use Rattle.main_run.specs.Whole.{Machine}
+use Rattle.rv_model.specs.Image.{Img, IsLoadable}
+use Rattle.main_run.specs.Whole.{IsMachine}
 
--- Each identity of Main holds in whole numbers, at each row, selected or not.
+-- Under the same suppositions each identity of each of the thirteen namespaces holds in whole numbers, at each row, selected or
+-- not.
 abbrev pub NoWrapLaw : Type 0
 NoWrapLaw =
-    (q : Profile) (c : Columns) (image : Img) → Machine q c image
-    → (i r : ℕ) → i < c.instances Main.here → r < c.rows Main.here → (k : ℕ) → HoldsExactly Main.items (around (machine q) c Main.here i r) (item_at Main.items k)
+    (image : Img) (sizes : Sizes) (c : Columns) → IsLoadable image → IsMachine image sizes c → AllHold (machine sizes.profile) c
+    → (s i r : ℕ) → s < 13 → i < c.instances s → r < c.rows s → (k : ℕ) → HoldsExactly (space_at (machine sizes.profile) s).items (around (machine sizes.profile) c s i r) (item_at (space_at (machine sizes.profile) s).items k)

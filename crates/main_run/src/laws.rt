@@ -4,10 +4,13 @@ ghost use Rattle.main_run.specs.Chain.{ChainLaw, RestLaw};
 ghost use Rattle.main_run.specs.Exact.{NoWrapLaw};
 ghost use Rattle.main_run.specs.Headline.{HeadlineLaw};
 ghost use Rattle.main_run.specs.Run.{BeginLaw, HaltLaw, StepsLaw};
-ghost use Rattle.main_run.specs.Whole.{MachineLaw};
+ghost use Rattle.main_run.specs.Whole.{MachineLaw, RowsLaw};
 
-use air_main::main_laws;
-use air_mem::{memory_bus, memory_lines, memory_text};
+use air_align::align_laws;
+use air_arith::arith_laws;
+use air_main::{main_constants, main_laws};
+use air_mem::{memory_bus, memory_constants, memory_lines, memory_text};
+use air_ops::{binary_laws, shift_laws};
 use image_rows::initial_law;
 use rv_model::words_law;
 
@@ -49,12 +52,21 @@ pub fn headline_laws()
     initial_law();
 }
 
-/// The same of the machine's text, in either profile.
+/// The machine's text, in either profile, over columns with the machine's constants.
 pub fn machine_laws()
+    // Where all lines hold, the image's run halts, and its public is that of the tables.
     ensures machine { MachineLaw }
-    // No identity of Main wraps.
+    // Row number j has state j and is step j.
+    ensures rows { RowsLaw }
+    // Then no identity of any namespace wraps.
     ensures exact { NoWrapLaw }
 {
+    main_constants();
+    memory_constants();
+    binary_laws();
+    shift_laws();
+    arith_laws();
+    align_laws();
     main_laws();
     memory_lines();
     memory_bus();
