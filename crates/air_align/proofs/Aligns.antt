@@ -3,58 +3,44 @@ use Rattle.std.proofs.Common.{ℕ, zero, suc, ◌+◌, ◌-◌, ◌<◌, ◌≤�
 use Rattle.std.proofs.lemmas.Bool.{cases_eq}
 use Rattle.pil_ast.specs.Value.{Cells, value, around}
 use Rattle.pil_exact.proofs.Row.{row_at, Fact, is, AllMeet, here, exact_lines, all_settled}
-use Rattle.pil_exact.proofs.Flags.{flags}
+use Rattle.pil_exact.proofs.Flags.{flags, each}
 use Rattle.machine_text.specs.Align.{items, access}
 use Rattle.air_align.specs.Laws.{AlignSound, AlignExact}
 use Rattle.air_align.proofs.Limbs.{low_of, high_of, fits}
 use Rattle.step_rows.specs.Tuples.{IsAccess}
-use Rattle.air_align.proofs.Known.{Selected, selected, all_sides, told, base, one_kind, one_offset}
-use Rattle.air_align.proofs.Rows.{IsTuple, Accesses}
-use Rattle.air_align.proofs.Lb.{lb}
-use Rattle.air_align.proofs.Lh.{lh}
-use Rattle.air_align.proofs.Lw.{lw}
-use Rattle.air_align.proofs.Ld.{ld}
-use Rattle.air_align.proofs.Lbu.{lbu}
-use Rattle.air_align.proofs.Lhu.{lhu}
-use Rattle.air_align.proofs.Lwu.{lwu}
-use Rattle.air_align.proofs.Sb.{sb}
-use Rattle.air_align.proofs.Sh.{sh}
-use Rattle.air_align.proofs.Sw.{sw}
-use Rattle.air_align.proofs.Sd.{sd}
+use Rattle.air_align.proofs.Known.{Selected, selected, all_sides, told, base, bound, rs_small, one_kind, one_offset}
+use Rattle.air_align.proofs.Rows.{IsTuple, Accesses, old_bytes, value_bytes, access_of}
+use Rattle.air_align.proofs.Said.{said, is_multiple}
+use Rattle.air_align.proofs.Results.{result}
+use Rattle.rv_word.specs.declared.instr.Kind.{Kind}
+use Rattle.rv_word.specs.declared.instr.Kind.TheVariants as kinds
+use Rattle.rv_word.specs.Numbers.{kind_number}
 
-too_many : (k : ℕ) → suc (suc (suc (suc (suc (suc (suc (suc (suc (suc (suc k)))))))))) < 11 → ⊥
-too_many k l = omega arith
+-- the kind with a number
+kind_of : (n : ℕ) → 1 ≤ n → n < 12 → (k : Kind) × (kind_number k ≡ n)
+unfolding kind_number
+kind_of zero l m = absurd (omega arith)
+kind_of (suc n) l m = each (λ j. (k : Kind) × (kind_number k ≡ suc j)) 11 ((kinds.Lb, refl), ((kinds.Lh, refl), ((kinds.Lw, refl), ((kinds.Ld, refl), ((kinds.Lbu, refl), ((kinds.Lhu, refl), ((kinds.Lwu, refl), ((kinds.Sb, refl), ((kinds.Sh, refl), ((kinds.Sw, refl), ((kinds.Sd, refl), tt))))))))))) n (omega arith)
 
-module _ (x : Cells) (s : Selected x) (j : ℕ) (l : j < 8) (offset : AllMeet (flags (12 + j) 12 8) (x.column 0 9)) where
-  by_kind : (k : ℕ) → k < 11 → AllMeet (flags (suc k) 1 11) (x.column 0 9) → IsTuple x s
-  by_kind zero h a = lb x j l (record { selected = s; kind = a; offset = offset })
-  by_kind (suc zero) h a = lh x j l (record { selected = s; kind = a; offset = offset })
-  by_kind (suc (suc zero)) h a = lw x j l (record { selected = s; kind = a; offset = offset })
-  by_kind (suc (suc (suc zero))) h a = ld x j l (record { selected = s; kind = a; offset = offset })
-  by_kind (suc (suc (suc (suc zero)))) h a = lbu x j l (record { selected = s; kind = a; offset = offset })
-  by_kind (suc (suc (suc (suc (suc zero))))) h a = lhu x j l (record { selected = s; kind = a; offset = offset })
-  by_kind (suc (suc (suc (suc (suc (suc zero)))))) h a = lwu x j l (record { selected = s; kind = a; offset = offset })
-  by_kind (suc (suc (suc (suc (suc (suc (suc zero))))))) h a = sb x j l (record { selected = s; kind = a; offset = offset })
-  by_kind (suc (suc (suc (suc (suc (suc (suc (suc zero)))))))) h a = sh x j l (record { selected = s; kind = a; offset = offset })
-  by_kind (suc (suc (suc (suc (suc (suc (suc (suc (suc zero))))))))) h a = sw x j l (record { selected = s; kind = a; offset = offset })
-  by_kind (suc (suc (suc (suc (suc (suc (suc (suc (suc (suc zero)))))))))) h a = sd x j l (record { selected = s; kind = a; offset = offset })
-  by_kind (suc (suc (suc (suc (suc (suc (suc (suc (suc (suc (suc k))))))))))) h a = absurd (too_many k h)
+less : (n : ℕ) → 12 ≤ n → n < 20 → n - 12 < 8
+less n h l = omega arith
 
-  by_place : (k : ℕ) → 1 ≤ k → k < 12 → AllMeet (flags k 1 11) (x.column 0 9) → IsTuple x s
-  by_place zero h m a = absurd (omega arith)
-  by_place (suc k) h m a = by_kind k (omega arith) a
+back : (n : ℕ) → 12 ≤ n → 12 + (n - 12) ≡ n
+back n h = omega arith
 
 pub tuple_holds : (x : Cells) (s : Selected x) → IsTuple x s
 tuple_holds x s =
-    let k = one_kind x s in
+    let f = x.column 0 9 in
+    let n = one_kind x s in
     let o = one_offset x s in
-    by_place x s (o.0 - 12) (less o.0 o.1 o.2) (subst (λ n. AllMeet (flags n 12 8) (x.column 0 9)) (sym (back o.0 o.1)) o.3) k.0 k.1 k.2 k.3
-  where
-    less : (n : ℕ) → 12 ≤ n → n < 20 → n - 12 < 8
-    less n h l = omega arith
-
-    back : (n : ℕ) → 12 ≤ n → 12 + (n - 12) ≡ n
-    back n h = omega arith
+    let k = kind_of n.0 n.1 n.2 in
+    let j = o.0 - 12 in
+    let l = less o.0 o.1 o.2 in
+    let kind = subst (λ n. AllMeet (flags n 1 11) f) (sym k.1) n.3 in
+    let offset = subst (λ n. AllMeet (flags n 12 8) f) (sym (back o.0 o.1)) o.3 in
+    let m = is_multiple x s j l offset k.0 kind in
+    let w = said k.0 j l m x (record { selected = s; kind = kind; offset = offset }) in
+    access_of x s k.0 j w.number w.offset l m (result f (old_bytes x s) (value_bytes x s) k.0 j _ _ l m w.low w.high w.sign (bound x s 36) (rs_small x s))
 
 -- the tuple with these entries
 access_of_limbs : (number off olo ohi vlo vhi mlo mhi : ℕ) → Accesses number off olo ohi vlo vhi mlo mhi → IsAccess (number ∷ off ∷ olo ∷ ohi ∷ vlo ∷ vhi ∷ mlo ∷ mhi ∷ [])

@@ -25,64 +25,6 @@ pub record Accesses (number off olo ohi vlo vhi mlo mhi : ℕ) : Type 0 where
   pub value_is : Limbs vlo vhi value
   pub result : Limbs mlo mhi (aligned k off old value)
 
--- a selected row of kind number k + 1, at the offset j
-pub record Op (x : Cells) (k j : ℕ) : Type 0 where
-  pub selected : Selected x
-  pub kind : AllMeet (flags (suc k) 1 11) (x.column 0 9)
-  pub offset : AllMeet (flags (12 + j) 12 8) (x.column 0 9)
-
-abbrev pub hot : ℕ → ℕ → List (ℕ × Fact)
-hot k j = (0, is 1) ∷ flags (suc k) 1 11 ++ (flags (12 + j) 12 8 ++ told)
-
-pub row : (x : Cells) (k j : ℕ) → Op x k j → Row items x 9 (here (hot k j))
-row x k j o = o.selected.row _ (o.selected.one, meet_both (flags (suc k) 1 11) (flags (12 + j) 12 8 ++ told) (x.column 0 9) o.kind (meet_both (flags (12 + j) 12 8) told (x.column 0 9) o.offset o.selected.within))
-
--- what the kinds do
-module _ (j old value : ℕ) where
-  pub lb_is : (b : ℕ) → part 1 j old ≡ b → aligned kinds.Lb j old value ≡ cast_unsigned w64 (cast_signed w8 b)
-  unfolding aligned
-  lb_is b e = ap (λ z. cast_unsigned w64 (cast_signed w8 z)) e
-
-  pub lh_is : (b : ℕ) → part 2 j old ≡ b → aligned kinds.Lh j old value ≡ cast_unsigned w64 (cast_signed w16 b)
-  unfolding aligned
-  lh_is b e = ap (λ z. cast_unsigned w64 (cast_signed w16 z)) e
-
-  pub lw_is : (b : ℕ) → part 4 j old ≡ b → aligned kinds.Lw j old value ≡ cast_unsigned w64 (cast_signed w32 b)
-  unfolding aligned
-  lw_is b e = ap (λ z. cast_unsigned w64 (cast_signed w32 z)) e
-
-  pub ld_is : aligned kinds.Ld j old value ≡ old
-  unfolding aligned
-  ld_is = refl
-
-  pub lbu_is : (b : ℕ) → part 1 j old ≡ b → aligned kinds.Lbu j old value ≡ b
-  unfolding aligned
-  lbu_is b e = e
-
-  pub lhu_is : (b : ℕ) → part 2 j old ≡ b → aligned kinds.Lhu j old value ≡ b
-  unfolding aligned
-  lhu_is b e = e
-
-  pub lwu_is : (b : ℕ) → part 4 j old ≡ b → aligned kinds.Lwu j old value ≡ b
-  unfolding aligned
-  lwu_is b e = e
-
-  pub sb_is : (v : ℕ) → put 1 j old value ≡ v → aligned kinds.Sb j old value ≡ v
-  unfolding aligned
-  sb_is v e = e
-
-  pub sh_is : (v : ℕ) → put 2 j old value ≡ v → aligned kinds.Sh j old value ≡ v
-  unfolding aligned
-  sh_is v e = e
-
-  pub sw_is : (v : ℕ) → put 4 j old value ≡ v → aligned kinds.Sw j old value ≡ v
-  unfolding aligned
-  sw_is v e = e
-
-  pub sd_is : aligned kinds.Sd j old value ≡ value
-  unfolding aligned
-  sd_is = refl
-
 module _ (x : Cells) (s : Selected x) where
   abbrev f : ℕ → ℕ
   f = x.column 0 9
@@ -116,6 +58,3 @@ module _ (x : Cells) (s : Selected x) where
         value_is = value_limbs;
         result = subst (λ z. Limbs (value items x mlo) (value items x mhi) (aligned k z (whole f 20) (whole f 28))) (sym g) r;
       }
-
-pub one_is_not_zero : suc zero ≡ zero → ⊥
-one_is_not_zero e = omega (arith, e)

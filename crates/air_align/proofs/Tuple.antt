@@ -1,24 +1,23 @@
 -- The row of an access has the tuple of the access.
-use Rattle.std.proofs.Common.{ℕ, zero, suc, ◌+◌, ◌*◌, ◌/◌, ◌%◌, ◌<◌, ◌≡◌, ◌≢◌, true, ltb, List, [], ◌∷◌, ◌++◌, map, refl, sym, ap, ◌∙◌, subst, arith}
-use Rattle.std.specs.Prelude.{slice_index}
-use Rattle.std.proofs.lemmas.Bool.{ltb-true}
+use Rattle.std.proofs.Common.{ℕ, zero, suc, ◌+◌, ◌*◌, ◌/◌, ◌%◌, ◌<◌, ◌≡◌, ◌≢◌, ◌==◌, List, [], ◌∷◌, ◌++◌, map, refl, sym, ap, ◌∙◌, subst, arith}
 use Rattle.rv_word.specs.declared.instr.Kind.{Kind}
 use Rattle.rv_word.specs.declared.instr.Kind.TheVariants as kinds
 use Rattle.rv_word.specs.Numbers.{kind_number}
 use Rattle.rv_model.specs.Align.{aligned}
 use Rattle.pil_ast.specs.Term.{Namespace}
 use Rattle.pil_ast.specs.Columns.{Columns}
-use Rattle.pil_ast.specs.Value.{Cells, around, value}
-use Rattle.pil_exact.proofs.Row.{is, amount, meet_both}
-use Rattle.pil_exact.proofs.Flags.{flags}
+use Rattle.pil_ast.specs.Value.{around, value}
+use Rattle.pil_exact.proofs.Row.{amount}
+use Rattle.pil_exact.proofs.Flags.{each}
 use Rattle.air_align.proofs.Limbs.{low_of, high_of}
-use Rattle.machine_text.specs.Align.{items, kind, off, olo, ohi, vlo, vhi, access}
-use Rattle.step_rows.specs.AlignRow.{align_row}
+use Rattle.machine_text.specs.Align.{items, kind, olo, ohi, vlo, vhi, access}
+use Rattle.machine_text.specs.Align as A
+use Rattle.step_rows.specs.Words.{one_if}
 use Rattle.step_rows.specs.Tuples.{access_tuple}
 use Rattle.air_align.specs.Laws.{AlignComplete, IsRowOf}
 use Rattle.air_align.proofs.Known.{Selected, selected, told, base}
 use Rattle.air_align.proofs.Aligns.{tuple_holds}
-use Rattle.air_align.proofs.Complete.{row_meets}
+use Rattle.air_align.proofs.Complete.{at, row_meets}
 
 -- the kind with a number
 abbrev kind_at : ℕ → Kind
@@ -64,52 +63,41 @@ high_bytes x x0 x1 x2 x3 v h e e0 e1 e2 e3 = omega arith
 not_none : (x : ℕ) → x ≡ 1 → x ≢ 0
 not_none x e z = omega arith
 
-module _ (ns : List Namespace) (c : Columns) (i r : ℕ) (old new : ℕ) where
-  abbrev x : Cells
-  x = around ns c 9 i r
+-- the flags by their numbers make the number
+kind_sum : (k : Kind) → one_if (kind_number k == 1) + 2 * one_if (kind_number k == 2) + 3 * one_if (kind_number k == 3) + 4 * one_if (kind_number k == 4) + 5 * one_if (kind_number k == 5) + 6 * one_if (kind_number k == 6) + 7 * one_if (kind_number k == 7) + 8 * one_if (kind_number k == 8) + 9 * one_if (kind_number k == 9) + 10 * one_if (kind_number k == 10) + 11 * one_if (kind_number k == 11) ≡ kind_number k
+unfolding kind_number
+kind_sum kinds.Lb = refl
+kind_sum kinds.Lh = refl
+kind_sum kinds.Lw = refl
+kind_sum kinds.Ld = refl
+kind_sum kinds.Lbu = refl
+kind_sum kinds.Lhu = refl
+kind_sum kinds.Lwu = refl
+kind_sum kinds.Sb = refl
+kind_sum kinds.Sh = refl
+kind_sum kinds.Sw = refl
+kind_sum kinds.Sd = refl
 
-  abbrev f : ℕ → ℕ
-  f k = c.at 9 i k r
+off_sum : (off : ℕ) → off < 8 → one_if (off == 1) + 2 * one_if (off == 2) + 3 * one_if (off == 3) + 4 * one_if (off == 4) + 5 * one_if (off == 5) + 6 * one_if (off == 6) + 7 * one_if (off == 7) ≡ off
+off_sum off l = each (λ off. one_if (off == 1) + 2 * one_if (off == 2) + 3 * one_if (off == 3) + 4 * one_if (off == 4) + 5 * one_if (off == 5) + 6 * one_if (off == 6) + 7 * one_if (off == 7) ≡ off) 8 (refl, (refl, (refl, (refl, (refl, (refl, (refl, (refl, tt)))))))) off l
 
-  at : (k : Kind) (j : ℕ) → IsRowOf c i r k j old new → (m : ℕ) → ltb m 38 ≡ true → f m ≡ slice_index (align_row k j old new) m
-  at k j h m q = h m (ltb-true m 38 q)
+module _ (ns : List Namespace) (c : Columns) (i r : ℕ) (k : Kind) (off old new : ℕ) (h : IsRowOf c i r k off old new) (s : Selected (around ns c 9 i r)) where
+  kind_is : value items (around ns c 9 i r) kind ≡ kind_number k
+  kind_is = amount (base (around ns c 9 i r) s) kind refl ∙ (λ j. at c i r k off old new h 1 refl j + 2 * at c i r k off old new h 2 refl j + 3 * at c i r k off old new h 3 refl j + 4 * at c i r k off old new h 4 refl j + 5 * at c i r k off old new h 5 refl j + 6 * at c i r k off old new h 6 refl j + 7 * at c i r k off old new h 7 refl j + 8 * at c i r k off old new h 8 refl j + 9 * at c i r k off old new h 9 refl j + 10 * at c i r k off old new h 10 refl j + 11 * at c i r k off old new h 11 refl j) ∙ kind_sum k
 
-  module _ (s : Selected x) where
-    kind_is : (k : Kind) (j : ℕ) → IsRowOf c i r k j old new → value items x kind ≡ kind_number k
-    unfolding kind_number
-    kind_is kinds.Lb j h = amount (s.row ((0, is 1) ∷ flags 1 1 11 ++ told) (s.one, meet_both (flags 1 1 11) told f (at kinds.Lb j h 1 refl, (at kinds.Lb j h 2 refl, (at kinds.Lb j h 3 refl, (at kinds.Lb j h 4 refl, (at kinds.Lb j h 5 refl, (at kinds.Lb j h 6 refl, (at kinds.Lb j h 7 refl, (at kinds.Lb j h 8 refl, (at kinds.Lb j h 9 refl, (at kinds.Lb j h 10 refl, (at kinds.Lb j h 11 refl, tt))))))))))) s.within)) kind refl
-    kind_is kinds.Lh j h = amount (s.row ((0, is 1) ∷ flags 2 1 11 ++ told) (s.one, meet_both (flags 2 1 11) told f (at kinds.Lh j h 1 refl, (at kinds.Lh j h 2 refl, (at kinds.Lh j h 3 refl, (at kinds.Lh j h 4 refl, (at kinds.Lh j h 5 refl, (at kinds.Lh j h 6 refl, (at kinds.Lh j h 7 refl, (at kinds.Lh j h 8 refl, (at kinds.Lh j h 9 refl, (at kinds.Lh j h 10 refl, (at kinds.Lh j h 11 refl, tt))))))))))) s.within)) kind refl
-    kind_is kinds.Lw j h = amount (s.row ((0, is 1) ∷ flags 3 1 11 ++ told) (s.one, meet_both (flags 3 1 11) told f (at kinds.Lw j h 1 refl, (at kinds.Lw j h 2 refl, (at kinds.Lw j h 3 refl, (at kinds.Lw j h 4 refl, (at kinds.Lw j h 5 refl, (at kinds.Lw j h 6 refl, (at kinds.Lw j h 7 refl, (at kinds.Lw j h 8 refl, (at kinds.Lw j h 9 refl, (at kinds.Lw j h 10 refl, (at kinds.Lw j h 11 refl, tt))))))))))) s.within)) kind refl
-    kind_is kinds.Ld j h = amount (s.row ((0, is 1) ∷ flags 4 1 11 ++ told) (s.one, meet_both (flags 4 1 11) told f (at kinds.Ld j h 1 refl, (at kinds.Ld j h 2 refl, (at kinds.Ld j h 3 refl, (at kinds.Ld j h 4 refl, (at kinds.Ld j h 5 refl, (at kinds.Ld j h 6 refl, (at kinds.Ld j h 7 refl, (at kinds.Ld j h 8 refl, (at kinds.Ld j h 9 refl, (at kinds.Ld j h 10 refl, (at kinds.Ld j h 11 refl, tt))))))))))) s.within)) kind refl
-    kind_is kinds.Lbu j h = amount (s.row ((0, is 1) ∷ flags 5 1 11 ++ told) (s.one, meet_both (flags 5 1 11) told f (at kinds.Lbu j h 1 refl, (at kinds.Lbu j h 2 refl, (at kinds.Lbu j h 3 refl, (at kinds.Lbu j h 4 refl, (at kinds.Lbu j h 5 refl, (at kinds.Lbu j h 6 refl, (at kinds.Lbu j h 7 refl, (at kinds.Lbu j h 8 refl, (at kinds.Lbu j h 9 refl, (at kinds.Lbu j h 10 refl, (at kinds.Lbu j h 11 refl, tt))))))))))) s.within)) kind refl
-    kind_is kinds.Lhu j h = amount (s.row ((0, is 1) ∷ flags 6 1 11 ++ told) (s.one, meet_both (flags 6 1 11) told f (at kinds.Lhu j h 1 refl, (at kinds.Lhu j h 2 refl, (at kinds.Lhu j h 3 refl, (at kinds.Lhu j h 4 refl, (at kinds.Lhu j h 5 refl, (at kinds.Lhu j h 6 refl, (at kinds.Lhu j h 7 refl, (at kinds.Lhu j h 8 refl, (at kinds.Lhu j h 9 refl, (at kinds.Lhu j h 10 refl, (at kinds.Lhu j h 11 refl, tt))))))))))) s.within)) kind refl
-    kind_is kinds.Lwu j h = amount (s.row ((0, is 1) ∷ flags 7 1 11 ++ told) (s.one, meet_both (flags 7 1 11) told f (at kinds.Lwu j h 1 refl, (at kinds.Lwu j h 2 refl, (at kinds.Lwu j h 3 refl, (at kinds.Lwu j h 4 refl, (at kinds.Lwu j h 5 refl, (at kinds.Lwu j h 6 refl, (at kinds.Lwu j h 7 refl, (at kinds.Lwu j h 8 refl, (at kinds.Lwu j h 9 refl, (at kinds.Lwu j h 10 refl, (at kinds.Lwu j h 11 refl, tt))))))))))) s.within)) kind refl
-    kind_is kinds.Sb j h = amount (s.row ((0, is 1) ∷ flags 8 1 11 ++ told) (s.one, meet_both (flags 8 1 11) told f (at kinds.Sb j h 1 refl, (at kinds.Sb j h 2 refl, (at kinds.Sb j h 3 refl, (at kinds.Sb j h 4 refl, (at kinds.Sb j h 5 refl, (at kinds.Sb j h 6 refl, (at kinds.Sb j h 7 refl, (at kinds.Sb j h 8 refl, (at kinds.Sb j h 9 refl, (at kinds.Sb j h 10 refl, (at kinds.Sb j h 11 refl, tt))))))))))) s.within)) kind refl
-    kind_is kinds.Sh j h = amount (s.row ((0, is 1) ∷ flags 9 1 11 ++ told) (s.one, meet_both (flags 9 1 11) told f (at kinds.Sh j h 1 refl, (at kinds.Sh j h 2 refl, (at kinds.Sh j h 3 refl, (at kinds.Sh j h 4 refl, (at kinds.Sh j h 5 refl, (at kinds.Sh j h 6 refl, (at kinds.Sh j h 7 refl, (at kinds.Sh j h 8 refl, (at kinds.Sh j h 9 refl, (at kinds.Sh j h 10 refl, (at kinds.Sh j h 11 refl, tt))))))))))) s.within)) kind refl
-    kind_is kinds.Sw j h = amount (s.row ((0, is 1) ∷ flags 10 1 11 ++ told) (s.one, meet_both (flags 10 1 11) told f (at kinds.Sw j h 1 refl, (at kinds.Sw j h 2 refl, (at kinds.Sw j h 3 refl, (at kinds.Sw j h 4 refl, (at kinds.Sw j h 5 refl, (at kinds.Sw j h 6 refl, (at kinds.Sw j h 7 refl, (at kinds.Sw j h 8 refl, (at kinds.Sw j h 9 refl, (at kinds.Sw j h 10 refl, (at kinds.Sw j h 11 refl, tt))))))))))) s.within)) kind refl
-    kind_is kinds.Sd j h = amount (s.row ((0, is 1) ∷ flags 11 1 11 ++ told) (s.one, meet_both (flags 11 1 11) told f (at kinds.Sd j h 1 refl, (at kinds.Sd j h 2 refl, (at kinds.Sd j h 3 refl, (at kinds.Sd j h 4 refl, (at kinds.Sd j h 5 refl, (at kinds.Sd j h 6 refl, (at kinds.Sd j h 7 refl, (at kinds.Sd j h 8 refl, (at kinds.Sd j h 9 refl, (at kinds.Sd j h 10 refl, (at kinds.Sd j h 11 refl, tt))))))))))) s.within)) kind refl
-
-    off_is : (k : Kind) (j : ℕ) → j < 8 → IsRowOf c i r k j old new → value items x off ≡ j
-    off_is k zero l h = amount (s.row ((0, is 1) ∷ flags 12 12 8 ++ told) (s.one, meet_both (flags 12 12 8) told f (at k 0 h 12 refl, (at k 0 h 13 refl, (at k 0 h 14 refl, (at k 0 h 15 refl, (at k 0 h 16 refl, (at k 0 h 17 refl, (at k 0 h 18 refl, (at k 0 h 19 refl, tt)))))))) s.within)) off refl
-    off_is k (suc zero) l h = amount (s.row ((0, is 1) ∷ flags 13 12 8 ++ told) (s.one, meet_both (flags 13 12 8) told f (at k 1 h 12 refl, (at k 1 h 13 refl, (at k 1 h 14 refl, (at k 1 h 15 refl, (at k 1 h 16 refl, (at k 1 h 17 refl, (at k 1 h 18 refl, (at k 1 h 19 refl, tt)))))))) s.within)) off refl
-    off_is k (suc (suc zero)) l h = amount (s.row ((0, is 1) ∷ flags 14 12 8 ++ told) (s.one, meet_both (flags 14 12 8) told f (at k 2 h 12 refl, (at k 2 h 13 refl, (at k 2 h 14 refl, (at k 2 h 15 refl, (at k 2 h 16 refl, (at k 2 h 17 refl, (at k 2 h 18 refl, (at k 2 h 19 refl, tt)))))))) s.within)) off refl
-    off_is k (suc (suc (suc zero))) l h = amount (s.row ((0, is 1) ∷ flags 15 12 8 ++ told) (s.one, meet_both (flags 15 12 8) told f (at k 3 h 12 refl, (at k 3 h 13 refl, (at k 3 h 14 refl, (at k 3 h 15 refl, (at k 3 h 16 refl, (at k 3 h 17 refl, (at k 3 h 18 refl, (at k 3 h 19 refl, tt)))))))) s.within)) off refl
-    off_is k (suc (suc (suc (suc zero)))) l h = amount (s.row ((0, is 1) ∷ flags 16 12 8 ++ told) (s.one, meet_both (flags 16 12 8) told f (at k 4 h 12 refl, (at k 4 h 13 refl, (at k 4 h 14 refl, (at k 4 h 15 refl, (at k 4 h 16 refl, (at k 4 h 17 refl, (at k 4 h 18 refl, (at k 4 h 19 refl, tt)))))))) s.within)) off refl
-    off_is k (suc (suc (suc (suc (suc zero))))) l h = amount (s.row ((0, is 1) ∷ flags 17 12 8 ++ told) (s.one, meet_both (flags 17 12 8) told f (at k 5 h 12 refl, (at k 5 h 13 refl, (at k 5 h 14 refl, (at k 5 h 15 refl, (at k 5 h 16 refl, (at k 5 h 17 refl, (at k 5 h 18 refl, (at k 5 h 19 refl, tt)))))))) s.within)) off refl
-    off_is k (suc (suc (suc (suc (suc (suc zero)))))) l h = amount (s.row ((0, is 1) ∷ flags 18 12 8 ++ told) (s.one, meet_both (flags 18 12 8) told f (at k 6 h 12 refl, (at k 6 h 13 refl, (at k 6 h 14 refl, (at k 6 h 15 refl, (at k 6 h 16 refl, (at k 6 h 17 refl, (at k 6 h 18 refl, (at k 6 h 19 refl, tt)))))))) s.within)) off refl
-    off_is k (suc (suc (suc (suc (suc (suc (suc zero))))))) l h = amount (s.row ((0, is 1) ∷ flags 19 12 8 ++ told) (s.one, meet_both (flags 19 12 8) told f (at k 7 h 12 refl, (at k 7 h 13 refl, (at k 7 h 14 refl, (at k 7 h 15 refl, (at k 7 h 16 refl, (at k 7 h 17 refl, (at k 7 h 18 refl, (at k 7 h 19 refl, tt)))))))) s.within)) off refl
-    off_is k (suc (suc (suc (suc (suc (suc (suc (suc j)))))))) l h = absurd (omega (arith, l))
+  off_is : off < 8 → value items (around ns c 9 i r) A.off ≡ off
+  off_is l = amount (base (around ns c 9 i r) s) A.off refl ∙ (λ j. at c i r k off old new h 13 refl j + 2 * at c i r k off old new h 14 refl j + 3 * at c i r k off old new h 15 refl j + 4 * at c i r k off old new h 16 refl j + 5 * at c i r k off old new h 17 refl j + 6 * at c i r k off old new h 18 refl j + 7 * at c i r k off old new h 19 refl j) ∙ off_sum off l
 
 pub align_complete : AlignComplete
 align_complete ns c i r k j old new has l e lo ln h =
     let m = row_meets ns c i r k j old new has l e h in
     let x = around ns c 9 i r in
-    let s = selected ns c i r has m (not_none _ (at ns c i r old new k j h 0 refl)) in
+    let s = selected ns c i r has m (not_none _ (at c i r k j old new h 0 refl)) in
     let w = tuple_holds (around ns c 9 i r) s in
     let row = base (around ns c 9 i r) s in
-    let g = at ns c i r old new k j h in
-    let nk = kind_is ns c i r old new s k j h in
-    let nj = off_is ns c i r old new s k j l h in
+    let g = at c i r k j old new h in
+    let nk = kind_is ns c i r k j old new h s in
+    let nj = off_is ns c i r k j old new h s l in
     let e0 = low_bytes _ _ _ _ _ old (amount row olo refl) (g 20 refl) (g 21 refl) (g 22 refl) (g 23 refl) in
     let e1 = high_bytes _ _ _ _ _ old lo (amount row ohi refl) (g 24 refl) (g 25 refl) (g 26 refl) (g 27 refl) in
     let e2 = low_bytes _ _ _ _ _ new (amount row vlo refl) (g 28 refl) (g 29 refl) (g 30 refl) (g 31 refl) in
@@ -117,7 +105,7 @@ align_complete ns c i r k j old new has l e lo ln h =
     let qk : w.k ≡ k = one_number w.k k (sym w.number_is ∙ nk) in
     let qo : w.old ≡ old = whole_of _ _ w.old old w.old_is.value e0 e1 in
     let qv : w.value ≡ new = whole_of _ _ w.value new w.value_is.value e2 e3 in
-    let v = (λ (t : aligned w.k (value items (around ns c 9 i r) off) w.old w.value ≡ aligned k j old new). t) (λ q. aligned (qk q) (nj q) (qo q) (qv q)) in
+    let v = (λ (t : aligned w.k (value items (around ns c 9 i r) A.off) w.old w.value ≡ aligned k j old new). t) (λ q. aligned (qk q) (nj q) (qo q) (qv q)) in
     let rl = low_of _ _ _ w.result ∙ ap (λ z. z % 4294967296) v in
     let rh = high_of _ _ _ w.result ∙ ap (λ z. z / 4294967296) v in
     (m, subst (λ z. map (value z.items (around ns c 9 i r)) access.terms ≡ access_tuple k j old new) (sym has.stands) (λ q. nk q ∷ nj q ∷ e0 q ∷ e1 q ∷ e2 q ∷ e3 q ∷ rl q ∷ rh q ∷ []))

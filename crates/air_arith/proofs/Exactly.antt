@@ -5,7 +5,6 @@ use Rattle.std.proofs.lemmas.List.{get_or_default}
 use Rattle.rv_word.specs.declared.instr.OpNo.{OpNo}
 use Rattle.rv_word.specs.Numbers.{op_number}
 use Rattle.rv_model.specs.Op.{value_of, flag_of}
-use Rattle.zk_layout.specs.Air.{air_of}
 use Rattle.zk_layout.specs.declared.air.Air.TheVariants as airs
 use Rattle.step_rows.specs.Tuples.{op_tuple, IsOperationOf}
 use Rattle.air_arith.proofs.Operation.{Limbs, IsOf}

@@ -1,5 +1,5 @@
 -- The row of each operation meets the lines of Arith.
-use Rattle.std.proofs.Common.{ℕ, zero, suc, ◌+◌, ◌-◌, ◌*◌, ◌/◌, ◌%◌, ◌^◌, ◌<◌, ◌≤◌, ◌≡◌, ◌≢◌, ◌==◌, Bool, true, false, cond, ltb, List, [], ◌∷◌, ◌++◌, refl, sym, ap, ◌∙◌, subst, mod-lt, pos_of_ne-zero, lit<, arith}
+use Rattle.std.proofs.Common.{ℕ, suc, ◌+◌, ◌*◌, ◌/◌, ◌%◌, ◌^◌, ◌<◌, ◌≤◌, ◌≡◌, ◌≢◌, ◌==◌, Bool, true, false, cond, ltb, List, [], ◌∷◌, refl, sym, ap, ◌∙◌, mod-lt, pos_of_ne-zero, lit<, arith}
 use Rattle.std.specs.Prelude.{nat_lt, slice_index}
 use Rattle.std.proofs.lemmas.Bool.{true≢false}
 use Rattle.std.proofs.lemmas.Bool.Decides.{nat_tests}
@@ -7,12 +7,12 @@ use Rattle.pil_ast.specs.Term.{Namespace}
 use Rattle.pil_ast.specs.Columns.{Columns}
 use Rattle.pil_ast.specs.Holds.{sent}
 use Rattle.pil_ast.specs.Value.{around}
-use Rattle.pil_exact.proofs.Row.{Fact, is, most, Meets, AllMeet, row_at, all_hold, meet_both}
+use Rattle.pil_exact.proofs.Row.{is, Meets, AllMeet, row_at, all_hold, meet_both}
 use Rattle.pil_exact.proofs.Flags.{flags, flag_at}
 use Rattle.pil_exact.proofs.Follows.{all_said}
 use Rattle.machine_text.specs.Arith.{space, items, sel}
-use Rattle.step_rows.specs.Words.{digit, one_if}
-use Rattle.step_rows.specs.ArithRow.{numbered_row, is_high, is_quotient, is_remainder, is_division, first_sign, second_sign, used, first_size, second_size, x_of, r_of, kn_of, zb_of, g_of, kg_of, result_sign, result_size, z_of, k1_of, k2_of, unless_zero, carry_of}
+use Rattle.step_rows.specs.Words.{one_if}
+use Rattle.step_rows.specs.ArithRow.{numbered_row, is_high, is_quotient, is_remainder, is_division, first_sign, second_sign, used, first_size, second_size, x_of, r_of, kn_of, zb_of, g_of, result_sign, result_size, z_of, unless_zero}
 use Rattle.air_arith.specs.Laws as L
 use Rattle.air_arith.specs.Laws.{ArithPadding, HasArith}
 use Rattle.air_arith.proofs.Numbered.{IsNumberedRow, CompleteFor}
@@ -21,7 +21,7 @@ use Rattle.air_arith.proofs.Numbers.{limb}
 use Rattle.air_arith.proofs.Carries.{fits}
 use Rattle.air_arith.proofs.Honest.{at, columns, bounds_hold, x_small, rest_small, low_limb, high_limb}
 use Rattle.air_arith.proofs.Shown.{first_signed, second_signed, sign_fact, known, others, Shown, step, two, summed, result_at, HalfAnd, DivisorAnd, ResultAnd, ColumnsAnd}
-use Rattle.air_arith.proofs.Owed.{top_bit, top_bit_le, counted_le, counted_is, top_split, top_line, size_lt, size_low, size_high, carry_le, whole_of, no_digits, no_high, divisor_and, less_of, upper_le, half_and, differ_le, either_le, either_lt, turned_lt, result_and, at_result, k1_le, k2_le}
+use Rattle.air_arith.proofs.Owed.{top_bit, top_bit_le, counted_le, counted_is, top_split, top_line, size_lt, size_low, size_high, carry_le, whole_of, no_digits, no_high, divisor_and, upper_le, half_and, differ_le, either_le, either_lt, turned_lt, result_and, at_result, k1_le, k2_le}
 
 pub arith_padding : ArithPadding
 arith_padding ns c i r has z =
@@ -260,34 +260,68 @@ module _ (ns : List Namespace) (c : Columns) (i r n a b : ℕ) (la : a < 1844674
       ((k.e0, refl), ((k.e1, refl), ((k.e2, refl), ((k.e3, refl), ((k.e4, refl), ((k.e5, refl), ((k.e6, refl), ((k.e7, refl), h))))))))
 
   shown : Shown f n s t kn zb
-  shown =
-      ((top_line (first_signed n) (top_bit (nat_lt n 8) a) _ _ _ (top_bit_le (nat_lt n 8) a la) (g 56 refl) first_top, refl),
-      ((top_line (second_signed n) (top_bit (nat_lt n 8) b) _ _ _ (top_bit_le (nat_lt n 8) b lb) (g 58 refl) second_top, refl),
-      ((size_low (nat_lt n 8) s a _ _ _ s_le la m_low a_low (g 60 refl), refl),
-      ((size_high (nat_lt n 8) s a _ _ _ s_le la m_high (λ j. cond (nat_lt n 8) (a_high j) (s * 4294967295)) (g 60 refl), refl),
-      ((size_low (nat_lt n 8) t b _ _ _ t_le lb v_low b_low (g 61 refl), refl),
-      ((size_high (nat_lt n 8) t b _ _ _ t_le lb v_high (λ j. cond (nat_lt n 8) (b_high j) (t * 4294967295)) (g 61 refl), refl),
-      ((no_others, refl),
-      columns_shown (half_shown (divisor_shown (result_shown ((last_digit (f 72) (f 77) (f 78) z (g 72 refl) (g 77 refl) (g 78 refl), refl), tt)))))))))))
+  shown = (
+    (top_line (first_signed n) (top_bit (nat_lt n 8) a) _ _ _ (top_bit_le (nat_lt n 8) a la) (g 56 refl) first_top, refl),
+    (
+      (top_line (second_signed n) (top_bit (nat_lt n 8) b) _ _ _ (top_bit_le (nat_lt n 8) b lb) (g 58 refl) second_top, refl),
+      (
+        (size_low (nat_lt n 8) s a _ _ _ s_le la m_low a_low (g 60 refl), refl),
+        (
+          (size_high (nat_lt n 8) s a _ _ _ s_le la m_high (λ j. cond (nat_lt n 8) (a_high j) (s * 4294967295)) (g 60 refl), refl),
+          (
+            (size_low (nat_lt n 8) t b _ _ _ t_le lb v_low b_low (g 61 refl), refl),
+            (
+              (size_high (nat_lt n 8) t b _ _ _ t_le lb v_high (λ j. cond (nat_lt n 8) (b_high j) (t * 4294967295)) (g 61 refl), refl),
+              (
+                (no_others, refl),
+                columns_shown (half_shown (divisor_shown (result_shown ((last_digit (f 72) (f 77) (f 78) z (g 72 refl) (g 77 refl) (g 78 refl), refl), tt)))),
+              ),
+            ),
+          ),
+        ),
+      ),
+    ),
+  )
 
   -- what is known of the columns
   flags_met : AllMeet (flags (suc n) 1 13) f
   flags_met = (g 1 refl ∙ flag_same n 0, (g 2 refl ∙ flag_same n 1, (g 3 refl ∙ flag_same n 2, (g 4 refl ∙ flag_same n 3, (g 5 refl ∙ flag_same n 4, (g 6 refl ∙ flag_same n 5, (g 7 refl ∙ flag_same n 6, (g 8 refl ∙ flag_same n 7, (g 9 refl ∙ flag_same n 8, (g 10 refl ∙ flag_same n 9, (g 11 refl ∙ flag_same n 10, (g 12 refl ∙ flag_same n 11, (g 13 refl ∙ flag_same n 12, tt)))))))))))))
 
   others_met : AllMeet (others n s t kn zb) f
-  others_met =
-      (sign_met (first_signed n) (f 56) (top_bit (nat_lt n 8) a) (g 56 refl) (top_bit_le (nat_lt n 8) a la),
-      (sign_met (second_signed n) (f 58) (top_bit (nat_lt n 8) b) (g 58 refl) (top_bit_le (nat_lt n 8) b lb),
-      (same_le _ _ 1 (g 60 refl) (carry_le s u (used n s a)),
-      (same_le _ _ 1 (g 61 refl) (carry_le t v (used n t b)),
-      (g 62 refl,
-      (digit_le _ _ (g 63 refl),
-      (same_le _ _ 65535 (g 64 refl) (upper_le kn w),
-      (g 65 refl,
-      (same_le _ _ 1 (g 70 refl) (either_le (is_division n) _ 0 1 (either_le (v == 0) 0 _ 1 (zero_at_most false) (carried rest (g_of n v rest))) (zero_at_most false)),
-      (same_le _ _ 1 (g 75 refl) (unless_le n v _ (k1_le sign q z kn kn_le)),
-      (same_le _ _ 1 (g 76 refl) (unless_le n v _ (k2_le sign q z kn kn_le hq hz)),
-      bounds_hold c i r n a b given hu hv)))))))))))
+  others_met = (
+    sign_met (first_signed n) (f 56) (top_bit (nat_lt n 8) a) (g 56 refl) (top_bit_le (nat_lt n 8) a la),
+    (
+      sign_met (second_signed n) (f 58) (top_bit (nat_lt n 8) b) (g 58 refl) (top_bit_le (nat_lt n 8) b lb),
+      (
+        same_le _ _ 1 (g 60 refl) (carry_le s u (used n s a)),
+        (
+          same_le _ _ 1 (g 61 refl) (carry_le t v (used n t b)),
+          (
+            g 62 refl,
+            (
+              digit_le _ _ (g 63 refl),
+              (
+                same_le _ _ 65535 (g 64 refl) (upper_le kn w),
+                (
+                  g 65 refl,
+                  (
+                    same_le _ _ 1 (g 70 refl) (either_le (is_division n) _ 0 1 (either_le (v == 0) 0 _ 1 (zero_at_most false) (carried rest (g_of n v rest))) (zero_at_most false)),
+                    (
+                      same_le _ _ 1 (g 75 refl) (unless_le n v _ (k1_le sign q z kn kn_le)),
+                      (
+                        same_le _ _ 1 (g 76 refl) (unless_le n v _ (k2_le sign q z kn kn_le hq hz)),
+                        bounds_hold c i r n a b given hu hv,
+                      ),
+                    ),
+                  ),
+                ),
+              ),
+            ),
+          ),
+        ),
+      ),
+    ),
+  )
 
   holds : n < 13 → HasArith ns c → L.Meets ns c i r
   holds l has =

@@ -1,5 +1,5 @@
 -- What the look-ups of a selected row of Arith say.
-use Rattle.std.proofs.Common.{ℕ, ◌+◌, ◌*◌, ◌<◌, ◌≤◌, ◌≡◌, ◌≢◌, true, not, eqb, List, ◌∷◌, ◌++◌, refl, subst, arith}
+use Rattle.std.proofs.Common.{ℕ, ◌+◌, ◌*◌, ◌<◌, ◌≤◌, ◌≡◌, ◌≢◌, true, not, eqb, List, ◌∷◌, refl, subst, arith}
 use Rattle.std.proofs.lemmas.Bool.Decides.{nat_tests}
 use Rattle.pil_ast.specs.Term.{num, ◌⊗◌, Namespace, item_at}
 use Rattle.pil_ast.specs.Columns.{Columns}

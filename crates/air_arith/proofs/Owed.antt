@@ -1,12 +1,12 @@
 -- The lines that are owed for the row of an operation, over plain numbers. The tests of the operation's number are
 -- Bools here: `wide` tells 64 bits, `signed` that an operand's sign is counted.
-use Rattle.std.proofs.Common.{ℕ, zero, suc, ◌+◌, ◌-◌, ◌*◌, ◌/◌, ◌%◌, ◌^◌, ◌<◌, ◌≤◌, ◌≡◌, ◌≢◌, ◌==◌, Bool, true, false, cond, refl, sym, ap, ◌∙◌, subst, div-add-mod', arith}
+use Rattle.std.proofs.Common.{ℕ, zero, suc, ◌+◌, ◌-◌, ◌*◌, ◌/◌, ◌%◌, ◌^◌, ◌<◌, ◌≤◌, ◌≡◌, ◌≢◌, ◌==◌, Bool, true, false, cond, refl, sym, ap, ◌∙◌, div-add-mod', arith}
 use Rattle.std.proofs.lemmas.Bool.{false≢true}
 use Rattle.std.proofs.lemmas.Bool.Decides.{nat_tests}
 use Rattle.step_rows.specs.Words.{digit}
 use Rattle.step_rows.specs.ArithRow.{size, differ, carry_of, turned, k1_of, k2_of}
 use Rattle.air_arith.proofs.Numbers.{limb}
-use Rattle.air_arith.proofs.Shown.{Top, SizeLow, SizeHigh, OutLow, OutHigh, summed, HalfAnd, DivisorAnd, ResultAnd, result_at}
+use Rattle.air_arith.proofs.Shown.{Top, SizeLow, SizeHigh, OutLow, OutHigh, HalfAnd, DivisorAnd, ResultAnd, result_at}
 
 pub above_one : (s : ℕ) → suc (suc s) ≤ 1 → ⊥
 above_one s l = omega arith

@@ -19,7 +19,7 @@ use Rattle.rv_word.specs.declared.instr.Kind.{Kind}
 use Rattle.rv_word.specs.declared.instr.Instr.{Instr}
 use Rattle.rv_word.specs.declared.instr.Instr.TheVariants.{Lui, Auipc, Jal, Jalr, Branch, Load, Store, OpImm, Op, Fence, Ecall, Ebreak}
 use Rattle.rv_model.specs.Image.{Img}
-use Rattle.rv_model.specs.Run.{state_at}
+use Rattle.rv_model.specs.Run.{state_at, step_at}
 use Rattle.rv_model.specs.Op.{flag_of, bits_of}
 use Rattle.rv_model.specs.State.{State, Answer, Next, Halt, executed, operand, wrapped, reg, next, jump, is_taken}
 use Rattle.min_trace.specs.Operands.{rs1_of, op_of, uw_of, compared_by}
@@ -35,12 +35,12 @@ use Rattle.min_trace.specs.Laws.{value_in}
 use Rattle.air_main.specs.Law.{HasMain, Meets, RowConstants, at_row}
 use Rattle.air_main.specs.Rows.{HasRow, SendsAccess, Sends, MainSends, IsRow, StandsAt, MainComplete, MainPadding}
 use Rattle.air_main.proofs.Rom.{RowOf}
-use Rattle.air_main.proofs.Recorded.{recorded, Ends, Stepped, stepped, record_is, ends_as}
+use Rattle.air_main.proofs.Recorded.{recorded, Ends, Stepped, stepped, step_is, record_is, ends_as}
 use Rattle.air_main.proofs.Decoded.{Ranges, ImmFits, decoded_as}
 use Rattle.air_main.proofs.Fields.{nth, row_of, row_pc, Small, row_small, low_below, high_below, one_le}
 use Rattle.air_main.proofs.Table.{listed, listed_is, tail, Found, found_in}
 use Rattle.air_main.proofs.Moves.{taken_is}
-use Rattle.air_main.proofs.Facts.{limb, flags, always, moves, Known, b_read, b_constant, ld_on, st_on, ms_off, w_is, v_result, v_link, v_loaded, whole_first, low_first}
+use Rattle.air_main.proofs.Facts.{limb, flags, always, moves, Known, b_read, b_constant, ld_on, st_on, go_on, go_off, to_next, to_jump, to_register', to_taken, to_taken', to_passed, to_passed', ms_off, w_is, v_result, v_link, v_loaded, whole_first, low_first}
 use Rattle.air_main.proofs.Selected.{set_to}
 use Rattle.air_main.proofs.Outcomes.{pc_of, no_halt, halted, not_on, jumps, jump_on, loads, stores, load_on, store_on, branch_on, target_as, on_4, jump_sum, register_sum, register_high, rest_bit, address_high, address_sum, address_bounds, sum_is, low_93, high_93, no_fault}
 
@@ -254,6 +254,18 @@ uw_as pc Fence = refl
 uw_as pc Ecall = refl
 uw_as pc Ebreak = refl
 
+cancelled : (a b d e : ℕ) → a + b ≡ b + d → d ≡ e → a ≡ e
+cancelled a b d e h k = omega arith
+
+-- the lowest bit of a register's target is no more than its low limb
+bit_le : (bit lo v : ℕ) → bit ≡ v % 2 → lo ≡ low v → bit ≤ lo
+unfolding low
+bit_le bit lo v h k = omega arith
+
+register_leads : (a bit q lo v p : ℕ) → bit ≡ v % 2 → lo ≡ low v → v / 2 * 2 ≡ p → p < 2 ^ 32 → a + (bit + q + 4) ≡ q + 4 + lo → a ≡ p
+unfolding low
+register_leads a bit q lo v p h k e l s = omega arith
+
 module _ (ns : List Namespace) (c : Columns) (n : ℕ) (image : Img) (ranges : Ranges) (i r : ℕ) (has : HasMain ns c n image) (number : ℕ) (s : State) (below : s.pc < 2 ^ 32) where
   abbrev cell : ℕ → ℕ
   cell k = c.at 6 i k r
@@ -398,21 +410,28 @@ module _ (ns : List Namespace) (c : Columns) (n : ℕ) (image : Img) (ranges : R
   by_next Ecall t x l h = absurd (not_on (reg s 17 == 93) _ t h)
   by_next Ebreak t x l h = absurd (not_on false _ t h)
 
-  by_halt : (k : Instr) (x : Setting k Halt) → executed k s ≡ Halt → Meets ns c i r
-  by_halt (Lui rd imm) x h = absurd (no_halt _ h)
-  by_halt (Auipc rd imm) x h = absurd (no_halt _ h)
-  by_halt (Jal rd imm) x h = absurd (jump_on s _ _ h)
-  by_halt (Jalr rd rs1 imm) x h = absurd (jump_on s _ _ h)
-  by_halt (Branch b rs1 rs2 imm) x h = absurd (branch_on (is_taken b (reg s rs1) (reg s rs2)) s _ _ h)
-  by_halt (Load q rd rs1 imm) x h = absurd (load_on s q rd _ h)
-  by_halt (Store q rs1 rs2 imm) x h = absurd (store_on s q _ _ h)
-  by_halt (OpImm o rd rs1 imm uw) x h = absurd (no_halt _ h)
-  by_halt (Op o rd rs1 rs2 uw) x h = absurd (no_halt _ h)
-  by_halt Fence x h = absurd (no_halt _ h)
-  by_halt Ecall x h =
+  -- ECALL alone halts
+  halts_only : (k : Instr) → executed k s ≡ Halt → Ecall ≡ k
+  halts_only (Lui rd imm) h = absurd (no_halt _ h)
+  halts_only (Auipc rd imm) h = absurd (no_halt _ h)
+  halts_only (Jal rd imm) h = absurd (jump_on s _ _ h)
+  halts_only (Jalr rd rs1 imm) h = absurd (jump_on s _ _ h)
+  halts_only (Branch b rs1 rs2 imm) h = absurd (branch_on (is_taken b (reg s rs1) (reg s rs2)) s _ _ h)
+  halts_only (Load q rd rs1 imm) h = absurd (load_on s q rd _ h)
+  halts_only (Store q rs1 rs2 imm) h = absurd (store_on s q _ _ h)
+  halts_only (OpImm o rd rs1 imm uw) h = absurd (no_halt _ h)
+  halts_only (Op o rd rs1 rs2 uw) h = absurd (no_halt _ h)
+  halts_only Fence h = absurd (no_halt _ h)
+  halts_only Ecall h = refl
+  halts_only Ebreak h = absurd (no_fault _ h)
+
+  by_ecall : Setting Ecall Halt → executed Ecall s ≡ Halt → Meets ns c i r
+  by_ecall x h =
       let e : reg s 17 ≡ 93 = eqb-true _ _ (halted (reg s 17 == 93) _ h) in
       halting ns c n image ranges i r has x.stands.constants (line_3 _ _ x) (line_8 _ _ x) (low_93 _ _ (column Ecall Halt x 22) e, (high_93 _ _ (column Ecall Halt x 23) e, met Ecall Halt x _ (R_is Ecall Halt x))) (λ z. x.stands.goes_on z)
-  by_halt Ebreak x h = absurd (no_fault _ h)
+
+  by_halt : (k : Instr) (x : Setting k Halt) → executed k s ≡ Halt → Meets ns c i r
+  by_halt k x h = subst (λ k. Setting k Halt → executed k s ≡ Halt → Meets ns c i r) (halts_only k h) by_ecall x h
 
   -- what the row sends
   module _ (k : Instr) (answer : Answer) (x : Setting k answer) where
@@ -502,19 +521,64 @@ module _ (ns : List Namespace) (c : Columns) (n : ℕ) (image : Img) (ranges : R
       let f = v_result ns c i r 1 0 1 0 0 0 0 row in
       (moved_by 0 1 k q (Next t) x v _ _ row (st_on ns c i r 1 0 0 0 0 0 0 row) (ap (λ z. z.kind) (R_is k (Next t) x)) (column k (Next t) x 30) (column k (Next t) x 31) (column k (Next t) x 32) a.0 (column k (Next t) x 33) (column k (Next t) x 34) (column k (Next t) x 35) (column k (Next t) x 36) l, f.0 ∙ column k (Next t) x 26, f.1 ∙ column k (Next t) x 27)
 
+  sent_by_ecall : Setting Ecall Halt → Sent Ecall Halt
+  sent_by_ecall x = let f = v_result ns c i r 1 0 0 0 0 0 1 (kind_row _ _ x _ (R_is _ _ x)) in (ms_off ns c i r 1 0 0 0 0 0 1 (kind_row _ _ x _ (R_is _ _ x)), f.0 ∙ column _ _ x 26, f.1 ∙ column _ _ x 27)
+
   sent_at_halt : (k : Instr) (x : Setting k Halt) → executed k s ≡ Halt → Sent k Halt
-  sent_at_halt (Lui rd imm) x h = absurd (no_halt _ h)
-  sent_at_halt (Auipc rd imm) x h = absurd (no_halt _ h)
-  sent_at_halt (Jal rd imm) x h = absurd (jump_on s _ _ h)
-  sent_at_halt (Jalr rd rs1 imm) x h = absurd (jump_on s _ _ h)
-  sent_at_halt (Branch b rs1 rs2 imm) x h = absurd (branch_on (is_taken b (reg s rs1) (reg s rs2)) s _ _ h)
-  sent_at_halt (OpImm o rd rs1 imm uw) x h = absurd (no_halt _ h)
-  sent_at_halt (Op o rd rs1 rs2 uw) x h = absurd (no_halt _ h)
-  sent_at_halt Fence x h = absurd (no_halt _ h)
-  sent_at_halt Ecall x h = let f = v_result ns c i r 1 0 0 0 0 0 1 (kind_row _ _ x _ (R_is _ _ x)) in (ms_off ns c i r 1 0 0 0 0 0 1 (kind_row _ _ x _ (R_is _ _ x)), f.0 ∙ column _ _ x 26, f.1 ∙ column _ _ x 27)
-  sent_at_halt Ebreak x h = absurd (no_fault _ h)
-  sent_at_halt (Load q rd rs1 imm) x h = absurd (load_on s q rd _ h)
-  sent_at_halt (Store q rs1 rs2 imm) x h = absurd (store_on s q _ _ h)
+  sent_at_halt k x h = subst (λ k. Setting k Halt → Sent k Halt) (halts_only k h) sent_by_ecall x
+
+  -- where the row says that it goes
+  abbrev to : ℕ
+  to = value items (around ns c 6 i r) Main.nx
+
+  onto : (p : ℕ) → cell 9 ≡ s.pc → wrapped (s.pc + 4) ≡ p → to ≡ cell 9 + 4 → to ≡ p
+  onto p h e q = q ∙ sym (on_4 (cell 9) s.pc p p h below e refl)
+
+  to_target : (imm : ℤ) (p : ℕ) → cell 18 ≡ target s.pc imm → wrapped (s.pc + bits_of imm) % 4 ≡ 0 → wrapped (s.pc + bits_of imm) ≡ p → p < 2 ^ 32 → to + (cell 9 + 4) ≡ cell 9 + 4 + cell 18 → to ≡ p
+  to_target imm p j m e l q = cancelled _ _ _ _ q (j ∙ target_as s.pc imm p m e l)
+
+  branch_leads : (b : Cond) (rs1 rs2 : ℕ) (imm : ℤ) (t : State) (x : Setting (Branch b rs1 rs2 imm) (Next t)) → t.pc < 2 ^ 32 → (T : Bool) → ((turned b ≡ 0) × (one_if (flag_of (compared_by b) (reg s rs1) (reg s rs2)) ≡ one_if T)) ⊎ ((turned b ≡ 1) × (one_if (flag_of (compared_by b) (reg s rs1) (reg s rs2)) ≡ one_if (not T)))
+      → (if T then jump s s.x (wrapped (s.pc + bits_of imm)) else next s) ≡ Next t → to ≡ t.pc
+  branch_leads b rs1 rs2 imm t x l true (inl q) h =
+      let j = jumps s _ _ t h in
+      to_target imm t.pc (jt_is b rs1 rs2 imm t x l) j.0 j.1 l (to_taken ns c i r 0 0 0 0 0 1 0 (knowing ((27, is 0) ∷ (36, is 1) ∷ []) (inv_is b rs1 rs2 imm t x l ∙ q.0, (flag_is b rs1 rs2 imm t x l ∙ q.1, tt)) (kind_row _ _ x _ (R_is _ _ x))))
+  branch_leads b rs1 rs2 imm t x l true (inr q) h =
+      let j = jumps s _ _ t h in
+      to_target imm t.pc (jt_is b rs1 rs2 imm t x l) j.0 j.1 l (to_taken' ns c i r 0 0 0 0 0 1 0 (knowing ((27, is 1) ∷ (36, is 0) ∷ []) (inv_is b rs1 rs2 imm t x l ∙ q.0, (flag_is b rs1 rs2 imm t x l ∙ q.1, tt)) (kind_row _ _ x _ (R_is _ _ x))))
+  branch_leads b rs1 rs2 imm t x l false (inl q) h =
+      onto t.pc (pc_is _ _ x) (ap pc_of h) (to_passed ns c i r 0 0 0 0 0 1 0 (knowing ((27, is 0) ∷ (36, is 0) ∷ []) (inv_is b rs1 rs2 imm t x l ∙ q.0, (flag_is b rs1 rs2 imm t x l ∙ q.1, tt)) (kind_row _ _ x _ (R_is _ _ x))))
+  branch_leads b rs1 rs2 imm t x l false (inr q) h =
+      onto t.pc (pc_is _ _ x) (ap pc_of h) (to_passed' ns c i r 0 0 0 0 0 1 0 (knowing ((27, is 1) ∷ (36, is 1) ∷ []) (inv_is b rs1 rs2 imm t x l ∙ q.0, (flag_is b rs1 rs2 imm t x l ∙ q.1, tt)) (kind_row _ _ x _ (R_is _ _ x))))
+
+  leads : (k : Instr) (t : State) (x : Setting k (Next t)) → t.pc < 2 ^ 32 → executed k s ≡ Next t → (value items (around ns c 6 i r) Main.go ≡ 1) × (to ≡ t.pc)
+  leads (Lui rd imm) t x l h = (go_on ns c i r 1 0 0 0 0 0 0 (kind_row _ _ x _ (R_is _ _ x)), onto t.pc (pc_is _ _ x) (ap pc_of h) (to_next ns c i r 1 0 0 0 0 0 0 (kind_row _ _ x _ (R_is _ _ x))))
+  leads (Auipc rd imm) t x l h = (go_on ns c i r 1 0 0 0 0 0 0 (kind_row _ _ x _ (R_is _ _ x)), onto t.pc (pc_is _ _ x) (ap pc_of h) (to_next ns c i r 1 0 0 0 0 0 0 (kind_row _ _ x _ (R_is _ _ x))))
+  leads (Jal rd imm) t x l h =
+      let j = jumps s _ _ t h in
+      (go_on ns c i r 1 0 0 0 1 0 0 (kind_row _ _ x _ (R_is _ _ x)), to_target imm t.pc (ap (λ z. z.jt) (R_is _ _ x)) j.0 j.1 l (to_jump ns c i r 1 0 0 0 1 0 0 (kind_row _ _ x _ (R_is _ _ x))))
+  leads (Jalr rd rs1 imm) t x l h =
+      let j = jumps s _ _ t h in
+      let k = Jalr rd rs1 imm in
+      let v = wrapped (reg s rs1 + bits_of imm) in
+      let row = kind_row k (Next t) x _ (R_is k (Next t) x) in
+      let lo : cell 34 ≡ low v = column k (Next t) x 26 ∙ ap low (sum_is (reg s rs1) (bits_of imm)) in
+      let bit : cell 37 ≡ v % 2 = column k (Next t) x 29 ∙ ap (λ z. z % 2) (sum_is (reg s rs1) (bits_of imm)) in
+      (go_on ns c i r 1 0 0 1 0 0 0 row, register_leads _ _ _ _ v t.pc bit lo j.1 l (to_register' ns c i r 1 0 0 1 0 0 0 (knowing ((37, most 1) ∷ []) (rest_bit _ _ bit, tt) row) (bit_le _ _ v bit lo)))
+  leads (Branch b rs1 rs2 imm) t x l h = (go_on ns c i r 0 0 0 0 0 1 0 (kind_row _ _ x _ (R_is _ _ x)), branch_leads b rs1 rs2 imm t x l (is_taken b (reg s rs1) (reg s rs2)) (taken_is b (reg s rs1) (reg s rs2)) h)
+  leads (Load q rd rs1 imm) t x l h =
+      let a = loads s q rd (wrapped (reg s rs1 + bits_of imm)) t h in
+      (go_on ns c i r 1 1 0 0 0 0 0 (kind_row _ _ x _ (R_is _ _ x)), onto t.pc (pc_is _ _ x) a.1 (to_next ns c i r 1 1 0 0 0 0 0 (kind_row _ _ x _ (R_is _ _ x))))
+  leads (Store q rs1 rs2 imm) t x l h =
+      let a = stores s q (wrapped (reg s rs1 + bits_of imm)) (reg s rs2) t h in
+      (go_on ns c i r 1 0 1 0 0 0 0 (kind_row _ _ x _ (R_is _ _ x)), onto t.pc (pc_is _ _ x) a.1 (to_next ns c i r 1 0 1 0 0 0 0 (kind_row _ _ x _ (R_is _ _ x))))
+  leads (OpImm o rd rs1 imm uw) t x l h = (go_on ns c i r 1 0 0 0 0 0 0 (kind_row _ _ x _ (R_is _ _ x)), onto t.pc (pc_is _ _ x) (ap pc_of h) (to_next ns c i r 1 0 0 0 0 0 0 (kind_row _ _ x _ (R_is _ _ x))))
+  leads (Op o rd rs1 rs2 uw) t x l h = (go_on ns c i r 0 0 0 0 0 0 0 (kind_row _ _ x _ (R_is _ _ x)), onto t.pc (pc_is _ _ x) (ap pc_of h) (to_next ns c i r 0 0 0 0 0 0 0 (kind_row _ _ x _ (R_is _ _ x))))
+  leads Fence t x l h = (go_on ns c i r 1 0 0 0 0 0 0 (kind_row _ _ x _ (R_is _ _ x)), onto t.pc (pc_is _ _ x) (ap pc_of h) (to_next ns c i r 1 0 0 0 0 0 0 (kind_row _ _ x _ (R_is _ _ x))))
+  leads Ecall t x l h = absurd (not_on (reg s 17 == 93) _ t h)
+  leads Ebreak t x l h = absurd (not_on false _ t h)
+
+  stops : (k : Instr) (x : Setting k Halt) → executed k s ≡ Halt → value items (around ns c 6 i r) Main.go ≡ 0
+  stops k x h = subst (λ k. Setting k Halt → value items (around ns c 6 i r) Main.go ≡ 0) (halts_only k h) (λ x. go_off ns c i r 1 0 0 0 0 0 1 (kind_row _ _ x _ (R_is _ _ x))) x
 
   no_break : (k : Instr) → ((t : State) × (executed k s ≡ Next t) × (t.pc < 2 ^ 32)) ⊎ (executed k s ≡ Halt) → k ≢ Ebreak
   no_break k (inl h) e = not_on false _ h.0 (subst (λ z. executed z s ≡ Next h.0) e h.1)
@@ -562,3 +626,29 @@ main_sends ranges ns c n image i r j h has st m row =
     let e = ends_as image j x h.ends in
     let found = found_in image c has.rom _ (of_step image j h x (no_break ns c n image ranges i r has j s h.below x.instr e)) in
     sends ns c n image ranges i r has j s h.below (record_at image j) x.instr found (decoded_as ranges x.word x.instr x.decoded).0 st h.a_fits h.s_fits h.c_fits m row (record_is image j x) e
+
+-- The setting of a step's row, with the instruction and the answer.
+module _ (ranges : Ranges) (ns : List Namespace) (c : Columns) (n : ℕ) (image : Img) (i r j : ℕ) (h : HasRow image j) (has : HasMain ns c n image) (st : StandsAt ns c i r (record_at image j)) (row : IsRow c i r (main_row (record_at image j))) where
+  abbrev x : Stepped image (state_at image j)
+  x = stepped image (state_at image j) h.ends
+
+  setting : (answer : Answer) → step_at image j ≡ answer → Setting ns c n image ranges i r has j (state_at image j) h.below x.instr answer
+  setting answer a =
+      let e = sym (step_is image j x) ∙ a in
+      let f : record_at image j ≡ recorded j x.instr (state_at image j) answer = record_is image j x ∙ ap (recorded j x.instr (state_at image j)) e in
+      record {
+        found = found_in image c has.rom _ (of_step image j h x (no_break ns c n image ranges i r has j (state_at image j) h.below x.instr (ends_as image j x h.ends)));
+        fits = (decoded_as ranges x.word x.instr x.decoded).0;
+        stands = subst (λ z. StandsAt ns c i r z) f st;
+        a_fits = subst (λ z. z.a < 2 ^ 64) f h.a_fits;
+        s_fits = subst (λ z. z.s < 2 ^ 64) f h.s_fits;
+        c_fits = subst (λ z. z.c < 2 ^ 64) f h.c_fits;
+        row = subst (λ z. IsRow c i r (main_row z)) f row;
+      }
+
+  -- where the row goes
+  pub row_leads : (t : State) → step_at image j ≡ Next t → t.pc < 2 ^ 32 → (value items (around ns c 6 i r) Main.go ≡ 1) × (value items (around ns c 6 i r) Main.nx ≡ t.pc)
+  row_leads t a l = leads ns c n image ranges i r has j (state_at image j) h.below x.instr t (setting (Next t) a) l (sym (step_is image j x) ∙ a)
+
+  pub row_stops : step_at image j ≡ Halt → value items (around ns c 6 i r) Main.go ≡ 0
+  row_stops a = stops ns c n image ranges i r has j (state_at image j) h.below x.instr (setting Halt a) (sym (step_is image j x) ∙ a)

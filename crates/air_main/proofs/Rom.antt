@@ -130,5 +130,5 @@ rom_all image row h =
     let i = h.pc / 4 in
     let l = quarter h.pc h.below in
     let e : row_at image (4 * i) ≡ Some row =
-        ap (row_at image) (whole h.pc (fetched_even image h.pc h.word h.fetched)) ∙ (ap (λ o. row_unless_break h.pc (instr_of o)) h.fetched ∙ (ap (row_unless_break h.pc) h.decoded ∙ (row_is h.pc h.instr h.no_break ∙ ap Some (sym h.is)))) in
+    ap (row_at image) (whole h.pc (fetched_even image h.pc h.word h.fetched)) ∙ (ap (λ o. row_unless_break h.pc (instr_of o)) h.fetched ∙ (ap (row_unless_break h.pc) h.decoded ∙ (row_is h.pc h.instr h.no_break ∙ ap Some (sym h.is)))) in
     kept (λ k. row_at image (4 * k)) (range_with_len 0 (2 ^ 30)) i i row (numbers (2 ^ 30) i l) e

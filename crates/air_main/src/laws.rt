@@ -3,7 +3,9 @@ ghost use Rattle.air_main.specs.Constants.{MainConstantsLaw, RomConstantsLaw};
 ghost use Rattle.air_main.specs.Law.{EndsLaw, FollowsLaw, MainExact, ProfilesLaw, RowLaw};
 ghost use Rattle.air_main.specs.Rows.{MainComplete, MainPadding, MainSends};
 ghost use Rattle.air_main.specs.Selected.{SelectedLaw};
+ghost use Rattle.air_main.specs.Table.{MainFilled, RunHasRows};
 
+use min_trace::bounds_law;
 use rv_word::decoding_law;
 
 /// What Main's lines say of one row, and which rows meet them.
@@ -34,3 +36,15 @@ pub fn main_constants()
     ensures rom { RomConstantsLaw }
     ensures main { MainConstantsLaw }
 {}
+
+/// The rows of a whole run that halts.
+pub fn main_rows()
+    // Each step has a row.
+    ensures steps { RunHasRows }
+
+    // The rows meet the lines, line 7 too, which joins the instances; the other buses go to other namespaces.
+    ensures filled { MainFilled }
+{
+    decoding_law();
+    bounds_law();
+}

@@ -1,16 +1,15 @@
 -- The row of an operation meets the lines of Binary.
-use Rattle.std.proofs.Common.{lit<, ℕ, suc, ◌+◌, ◌-◌, ◌*◌, ◌%◌, ◌/◌, ◌^◌, ◌<◌, ◌≤◌, ◌≡◌, ◌≢◌, inl, inr, Bool, true, false, cond, eqb, ltb, bit_and, get_or, map, List, [], ◌∷◌, ◌++◌, refl, ap, subst, sym, ◌∙◌, arith}
+use Rattle.std.proofs.Common.{lit<, ℕ, suc, ◌+◌, ◌-◌, ◌*◌, ◌%◌, ◌/◌, ◌^◌, ◌<◌, ◌≤◌, ◌≡◌, ◌≢◌, inl, inr, Bool, true, false, cond, eqb, ltb, bit_and, get_or, List, [], ◌∷◌, ◌++◌, refl, ap, sym, ◌∙◌, arith}
 use Rattle.std.specs.Prelude.{slice_index, sum}
 use Rattle.std.specs.Int.{to_le_bytes, w64}
 use Rattle.std.proofs.lemmas.Bool.{ltb-true, cases_eq}
-use Rattle.std.proofs.lemmas.List.{get_or_default}
 use Rattle.std.proofs.lemmas.Bool.Decides.{nat_tests}
 use Rattle.pil_ast.specs.Term.{Namespace}
 use Rattle.pil_ast.specs.Columns.{Columns}
 use Rattle.pil_ast.specs.Value.{around}
 use Rattle.pil_ast.specs.Holds.{sent, tuple}
 use Rattle.pil_exact.proofs.Row.{Fact, is, most, AllMeet, Row, row_at, knowing, here, all_hold}
-use Rattle.pil_exact.proofs.Flags.{flags, Each, each}
+use Rattle.pil_exact.proofs.Flags.{flags, Each}
 use Rattle.pil_exact.proofs.Follows.{all_said, Rest}
 use Rattle.air_ops.proofs.BinarySound.{IsOp, tuple_is, add_is, sub_is, ltu_is, lt_is, eq_is, and_is, or_is, xor_is, addw_is, subw_is, sh1add_is, sh2add_is, sh3add_is, czeqz_is, cznez_is}
 use Rattle.air_ops.proofs.Limbwise.{IsAnd, joined}
@@ -211,9 +210,10 @@ module _ (ns : List Namespace) (c : Columns) (i r : ℕ) (has : HasBinary ns c) 
     high_b e = at 45 refl ∙ ap (λ t. cond t (high_borrow a b) (cond (scales o) 0 (high_carry 1 a b))) e.0
 
     no_k : (m : ℕ) → Scales m → (f 44 ≡ 0) × (f 45 ≡ 0)
-    no_k m e =
-        (at 44 refl ∙ ap (λ t. cond t (low_borrow a b) (cond (scales o) 0 (low_carry 1 a b))) e.0 ∙ ap (λ t. cond t 0 (low_carry 1 a b)) e.1,
-        at 45 refl ∙ ap (λ t. cond t (high_borrow a b) (cond (scales o) 0 (high_carry 1 a b))) e.0 ∙ ap (λ t. cond t 0 (high_carry 1 a b)) e.1)
+    no_k m e = (
+      at 44 refl ∙ ap (λ t. cond t (low_borrow a b) (cond (scales o) 0 (low_carry 1 a b))) e.0 ∙ ap (λ t. cond t 0 (low_carry 1 a b)) e.1,
+      at 45 refl ∙ ap (λ t. cond t (high_borrow a b) (cond (scales o) 0 (high_carry 1 a b))) e.0 ∙ ap (λ t. cond t 0 (high_carry 1 a b)) e.1,
+    )
 
     low_j : (m : ℕ) → Scales m → f 46 ≡ low_carry m a b
     low_j m e = at 46 refl ∙ ap (λ t. cond t (low_carry (factor o) a b) 0) e.1 ∙ ap (λ m. low_carry m a b) e.2
@@ -271,7 +271,7 @@ module _ (ns : List Namespace) (c : Columns) (i r : ℕ) (has : HasBinary ns c) 
         let low : f 55 ≡ (sum (to_le_bytes w64 b) - 1) % 65536 = at 55 refl ∙ ap (λ z. z % 65536) v in
         let high : f 56 ≡ (sum (to_le_bytes w64 b) - 1) / 65536 = at 56 refl ∙ ap (λ z. z / 65536) v in
         let met : (n : ℕ) → one_if (eqb b 0) ≡ n → AllMeet (telling n) f =
-            λ n g. carry_le _ 1 a b (lit< tt) (low_k e) ▸ high_carry_le _ 1 a b (lit< tt) la lb (high_k e) ▸ (no_j e.1).0 ▸ (no_j e.1).1 ▸ (at 54 refl ∙ t ∙ g) ▸ half_le _ _ low ▸ few_8 _ b high ▸ tt in
+        λ n g. carry_le _ 1 a b (lit< tt) (low_k e) ▸ high_carry_le _ 1 a b (lit< tt) la lb (high_k e) ▸ (no_j e.1).0 ▸ (no_j e.1).1 ▸ (at 54 refl ∙ t ∙ g) ▸ half_le _ _ low ▸ few_8 _ b high ▸ tt in
         whole k h (elim (cases_eq b 0) [
           | inl z ↦ holds k (telling 1) h (met 1 (ap one_if (test_on b 0 z))) (one (summed e (by_line (no_bytes b _ _ _ _ _ _ _ _ lb (at 24 refl) (at 25 refl) (at 26 refl) (at 27 refl) (at 28 refl) (at 29 refl) (at 30 refl) (at 31 refl) z), tt)))
           | inr z ↦ holds k (telling 0) h (met 0 (ap one_if (test_off b 0 z))) (none (summed e (by_line (some_bytes b _ _ _ _ _ _ _ _ lb (at 24 refl) (at 25 refl) (at 26 refl) (at 27 refl) (at 28 refl) (at 29 refl) (at 30 refl) (at 31 refl) _ _ z low high), tt)))
@@ -283,7 +283,7 @@ module _ (ns : List Namespace) (c : Columns) (i r : ℕ) (has : HasBinary ns c) 
       let e : (k : ℕ) → ltb k 57 ≡ true → f k ≡ slice_index (binary_row ops.Eq a b) k = at ops.Eq h in
       let v = worked ops.Eq a b in
       let met : (n : ℕ) → one_if (eqb a b) ≡ n → AllMeet (telling n) f =
-          λ n g. one_le _ _ (e 44 refl) ▸ one_le _ _ (e 45 refl) ▸ e 46 refl ▸ e 47 refl ▸ (e 54 refl ∙ g) ▸ half_le _ _ (e 55 refl) ▸ few_4 _ v (worked_fits ops.Eq a b) (e 56 refl) ▸ tt in
+      λ n g. one_le _ _ (e 44 refl) ▸ one_le _ _ (e 45 refl) ▸ e 46 refl ▸ e 47 refl ▸ (e 54 refl ∙ g) ▸ half_le _ _ (e 55 refl) ▸ few_4 _ v (worked_fits ops.Eq a b) (e 56 refl) ▸ tt in
       whole ops.Eq h 5 (flagged ops.Eq h) (elim (cases_eq a b) [
         | inl z ↦ holds ops.Eq h 5 (telling 1) (flagged ops.Eq h) (met 1 (ap one_if (test_on a b z))) (differing ops.Eq h (refl, refl) (by_line (no_halves a b _ _ _ _ z lb (e 40 refl) (e 41 refl) (e 42 refl) (e 43 refl)), tt))
         | inr z ↦ holds ops.Eq h 5 (telling 0) (flagged ops.Eq h) (met 0 (ap one_if (test_off a b z))) (differing ops.Eq h (refl, refl) (by_line (some_halves v _ _ _ _ _ _ (worked_fits ops.Eq a b) (apart_is a b la lb z) (e 40 refl) (e 41 refl) (e 42 refl) (e 43 refl) (e 55 refl) (e 56 refl)), tt))

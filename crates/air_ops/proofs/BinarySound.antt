@@ -1,8 +1,8 @@
 -- A selected row of Binary is an operation: one of fifteen, by the flag that is set.
-use Rattle.std.proofs.Common.{ℕ, zero, suc, ◌+◌, ◌*◌, ◌%◌, ◌/◌, ◌^◌, ◌<◌, ◌≤◌, ◌≡◌, ◌≢◌, ◌⊎◌, inl, inr, Bool, true, false, cond, eqb, ltb, bit_and, length, get_or, map, List, [], ◌∷◌, ◌++◌, refl, ap, subst, sym, ◌∙◌, arith}
+use Rattle.std.proofs.Common.{ℕ, zero, suc, ◌+◌, ◌*◌, ◌%◌, ◌/◌, ◌^◌, ◌<◌, ◌≤◌, ◌≡◌, ◌≢◌, ◌⊎◌, inl, inr, Bool, true, false, cond, eqb, bit_and, map, List, [], ◌∷◌, ◌++◌, refl, ap, subst, sym, ◌∙◌, arith}
 use Rattle.std.specs.Prelude.{bit_or, bit_xor}
 use Rattle.std.proofs.lemmas.Nat.{and_le_l, or_lt, xor_lt}
-use Rattle.std.proofs.lemmas.Bool.{cases_eq, ltb-true}
+use Rattle.std.proofs.lemmas.Bool.{cases_eq}
 use Rattle.pil_ast.specs.Term.{Term, Namespace, item_at}
 use Rattle.pil_ast.specs.Columns.{Columns}
 use Rattle.pil_ast.specs.Value.{around, value}
@@ -19,7 +19,7 @@ use Rattle.zk_layout.specs.Air.{air_of}
 use Rattle.zk_layout.specs.declared.air.Air.TheVariants as airs
 use Rattle.machine_text.specs.Binary.{items, op, clo, chi, flag, operation}
 use Rattle.step_rows.specs.Words.{one_if}
-use Rattle.step_rows.specs.Tuples.{op_tuple, IsOperation, IsOperationOf}
+use Rattle.step_rows.specs.Tuples.{op_tuple, IsOperationOf}
 use Rattle.air_ops.specs.Tables.{Meets}
 use Rattle.air_ops.specs.Binary.{HasBinary, IsSound}
 

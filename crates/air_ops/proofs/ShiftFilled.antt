@@ -1,8 +1,7 @@
 -- The row of a shift meets the lines of Shift, where those of its digits do.
-use Rattle.std.proofs.Common.{ℕ, zero, suc, ◌+◌, ◌*◌, ◌<◌, ◌≡◌, not, eqb, Bool, true, false, List, [], ◌∷◌, ◌++◌, map, None, refl, sym, ◌∙◌, arith}
-use Rattle.std.proofs.lemmas.Bool.{false≢true}
+use Rattle.std.proofs.Common.{ℕ, ◌+◌, ◌*◌, ◌<◌, ◌≡◌, not, eqb, true, List, [], ◌∷◌, map, refl, sym, ◌∙◌, arith}
 use Rattle.std.proofs.lemmas.Bool.Decides.{nat_tests}
-use Rattle.pil_ast.specs.Term.{Line, lookup, Namespace, item_at}
+use Rattle.pil_ast.specs.Term.{lookup, Namespace}
 use Rattle.pil_ast.specs.Columns.{Columns}
 use Rattle.pil_ast.specs.Value.{Cells, around, value}
 use Rattle.pil_ast.specs.Holds.{sent}

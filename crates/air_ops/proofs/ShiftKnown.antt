@@ -1,5 +1,5 @@
 -- What the look-ups of a selected row of Shift say.
-use Rattle.std.proofs.Common.{ℕ, zero, suc, ◌+◌, ◌/◌, ◌%◌, ◌<◌, ◌≤◌, ◌≡◌, ◌≢◌, inl, inr, true, not, eqb, List, [], ◌∷◌, ◌++◌, Some, None, refl, sym, ap, ◌∙◌, subst, mod-lt, lit<, arith}
+use Rattle.std.proofs.Common.{ℕ, ◌+◌, ◌/◌, ◌%◌, ◌<◌, ◌≤◌, ◌≡◌, ◌≢◌, inl, inr, true, not, eqb, List, [], ◌∷◌, Some, refl, sym, ap, ◌∙◌, subst, mod-lt, lit<, arith}
 use Rattle.std.specs.Prelude.{slice_index}
 use Rattle.std.proofs.lemmas.Bool.Decides.{nat_tests}
 use Rattle.std.proofs.lemmas.Bool.{cases_lt}
@@ -15,7 +15,7 @@ use Rattle.pil_exact.proofs.Small.{AllSmall, AllLook, all_look, look, Looks, bou
 use Rattle.step_rows.specs.ShiftRow.{right, signed, wide, amount, at_place, factor, table_row}
 use Rattle.machine_text.specs.Words.{rows_with}
 use Rattle.machine_text.specs.ShiftTab
-use Rattle.machine_text.specs.Shift.{here as shift_here, space, items, sel, op, s, rt, ar, ww, u, m}
+use Rattle.machine_text.specs.Shift.{space, items, sel, op, s, rt, ar, ww, u, m}
 use Rattle.air_ops.specs.Tables.{Meets}
 use Rattle.air_ops.specs.Shift.{HasShift}
 

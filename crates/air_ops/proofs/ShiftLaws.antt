@@ -1,5 +1,5 @@
 -- The laws of Shift.
-use Rattle.std.proofs.Common.{ℕ, ◌%◌, ◌/◌, ◌≤◌, ◌≡◌, ◌≢◌, inl, inr, Bool, true, false, cond, ◌==◌, nat_lt, List, [], ◌∷◌, ◌++◌, map, refl, sym, subst, arith}
+use Rattle.std.proofs.Common.{ℕ, ◌%◌, ◌/◌, ◌≤◌, ◌≡◌, ◌≢◌, inl, inr, Bool, true, false, cond, ◌==◌, nat_lt, List, [], ◌∷◌, map, refl, sym, subst, arith}
 use Rattle.std.proofs.lemmas.Bool.{cases_eq}
 use Rattle.pil_ast.specs.Term.{Namespace, item_at}
 use Rattle.pil_ast.specs.Columns.{Columns}
@@ -9,7 +9,7 @@ use Rattle.pil_exact.proofs.Row.{row_at, equation, Fact, is, most, AllMeet, here
 use Rattle.step_rows.specs.ShiftRow.{amount as shift_amount}
 use Rattle.zk_layout.specs.declared.air.Air.TheVariants as airs
 use Rattle.step_rows.specs.Tuples.{IsOperationOf}
-use Rattle.machine_text.specs.Shift.{items, operation, space}
+use Rattle.machine_text.specs.Shift.{items, operation}
 use Rattle.air_ops.specs.Tables.{Meets}
 use Rattle.air_ops.specs.Shift.{HasShift, IsSound, IsExact}
 use Rattle.air_ops.proofs.ShiftKnown.{told, Asks, says, entry, within, one_here, row_asks}

@@ -10,7 +10,6 @@ use Rattle.pil_ast.specs.Term.{num, ◌⊗◌, item_at}
 use Rattle.pil_ast.specs.Value.{Cells, value}
 use Rattle.pil_exact.proofs.Row.{Fact, is, most, AllMeet, Row, here, line, amount, fact}
 use Rattle.air_ops.proofs.Limbs.{Limbs, low_of, high_of, fits_of}
-use Rattle.air_ops.proofs.Airs.{operations}
 use Rattle.zk_layout.specs.Air.{air_of}
 use Rattle.zk_layout.specs.declared.air.Air.TheVariants as airs
 use Rattle.step_rows.specs.Words.{one_if}
@@ -19,7 +18,7 @@ use Rattle.pil_exact.proofs.Flags.{Each, each}
 use Rattle.air_ops.proofs.Digits.{Digits, Cut, whole, half}
 use Rattle.air_ops.proofs.Twos.{plus, minus}
 use Rattle.step_rows.specs.ShiftRow.{right, signed, wide, amount as shift_amount, at_place, factor}
-use Rattle.machine_text.specs.Shift.{items, alo, ahi, blo, clo, chi, xr, rr, t, operation}
+use Rattle.machine_text.specs.Shift.{items, alo, ahi, blo, xr, rr, t, operation}
 use Rattle.air_ops.proofs.ShiftKnown.{Asks, told}
 use Rattle.air_ops.proofs.ShiftCases as C
 use Rattle.air_ops.proofs.ShiftCases.{known, with_sign, digits, Meets, Results, Signs, plain, narrow, narrow_signed}

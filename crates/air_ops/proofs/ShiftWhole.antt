@@ -3,13 +3,12 @@ use Rattle.std.proofs.Common.{ℕ, ◌^◌, ◌<◌, ◌≡◌, ◌≢◌, inl, 
 use Rattle.std.specs.Prelude.{slice_index}
 use Rattle.std.proofs.lemmas.Bool.{true≢false}
 use Rattle.pil_ast.specs.Term.{item_at}
-use Rattle.pil_ast.specs.Value.{around, value}
-use Rattle.pil_ast.specs.Holds.{Holds, tuple}
+use Rattle.pil_ast.specs.Holds.{Holds}
 use Rattle.pil_laws.proofs.Sent.{from_sent}
 use Rattle.pil_laws.proofs.Lines.{space_holds, row_meets, all_hold}
 use Rattle.zk_layout.specs.declared.air.Air.TheVariants as airs
 use Rattle.step_rows.specs.Tuples.{IsOperationOf}
-use Rattle.machine_text.specs.Shift.{items, operation, bhi}
+use Rattle.machine_text.specs.Shift.{items, operation}
 use Rattle.air_ops.specs.Shift.{SendsOperations, HoldsFilled}
 use Rattle.air_ops.proofs.ShiftLaws.{shift_sound}
 use Rattle.air_ops.proofs.ShiftFilled.{shift_padding}

@@ -10,3 +10,6 @@ mod text;
 
 pub use laws::{binary_laws, shift_laws};
 pub use text::spaces;
+
+#[cfg(test)]
+mod tests;

@@ -38,9 +38,9 @@ impl Model for FixedValues {
     ghost view = { λ f. record { entry = f.entry; rom = f.rom.items; initial = f.initial.items; sizes = f.sizes } };
 
     ghost invariant = { λ f. record {
-        few_rows : length f.rom.items ≤ 2 ^ 30;
-        few_doublewords : length f.initial.items ≤ 2 ^ 30;
-        in_memory : All (λ row. row.pc < MEMORY_END) f.rom.items;
+      few_rows : length f.rom.items ≤ 2 ^ 30;
+      few_doublewords : length f.initial.items ≤ 2 ^ 30;
+      in_memory : All (λ row. row.pc < MEMORY_END) f.rom.items;
     } };
 }
 
@@ -138,7 +138,10 @@ impl FixedValues {
             Namespace::Rom => self.rom_cell(instance, column, row),
             Namespace::Init => self.init_cell(instance, column, row),
             Namespace::Main => {
-                cell(&of_main(self.entry, self.place(Air::Main, instance, row)), column)
+                cell(
+                    &of_main(self.entry, self.place(Air::Main, instance, row)),
+                    column,
+                )
             }
             Namespace::Mem => cell(&of_mem(self.place(Air::Mem, instance, row)), column),
             Namespace::Out if row <= OUTPUT_WORDS => cell(&of_out(row), column),

@@ -4,7 +4,6 @@ use Rattle.min_trace.specs.declared.record.StepRecord.{StepRecord}
 use Rattle.step_rows.specs.Words.{low, high, one_if}
 use Rattle.step_rows.specs.Rom.{rom_row}
 use Rattle.step_rows.specs.MainRow.{cleared_bit, of_access}
-use Rattle.rom_row.specs.Told.{told}
 use Rattle.main_rows.specs.declared.cells.Done.{Done}
 use Rattle.main_rows.specs.declared.cells.MainCell.{MainCell}
 use Rattle.main_rows.specs.declared.cells.MainCell.TheVariants as cells
@@ -12,7 +11,7 @@ use Rattle.main_rows.specs.declared.cells.MainCell.TheVariants as cells
 abbrev pub done : StepRecord → Done
 done r = record {
   pc = r.pc % 2 ^ 32;
-  told = told (rom_row r.pc r.instr);
+  rom = rom_row r.pc r.instr;
   a = r.a;
   s = r.s;
   c = r.c;
@@ -28,26 +27,26 @@ done r = record {
 unfoldable pub cell_of : MainCell → Done → ℕ
 cell_of cells.Selector x = 1
 cell_of cells.Pc x = x.pc
-cell_of cells.Rs1 x = x.told.rs1
-cell_of cells.Rs2 x = x.told.rs2
-cell_of cells.Rd x = x.told.rd
-cell_of cells.Op x = x.told.op
-cell_of cells.Ilo x = x.told.ilo
-cell_of cells.Ihi x = x.told.ihi
-cell_of cells.Klo x = x.told.klo
-cell_of cells.Khi x = x.told.khi
-cell_of cells.Jt x = x.told.jt
-cell_of cells.KindNumber x = x.told.kind
-cell_of cells.Bi x = x.told.bi
-cell_of cells.Wr x = x.told.wr
-cell_of cells.Ld x = x.told.ld
-cell_of cells.St x = x.told.st
-cell_of cells.Jr x = x.told.jr
-cell_of cells.Jp x = x.told.jp
-cell_of cells.Br x = x.told.br
-cell_of cells.Inv x = x.told.inv
-cell_of cells.Halt x = x.told.halt
-cell_of cells.Uw x = x.told.uw
+cell_of cells.Rs1 x = x.rom.rs1
+cell_of cells.Rs2 x = x.rom.rs2
+cell_of cells.Rd x = x.rom.rd
+cell_of cells.Op x = x.rom.op
+cell_of cells.Ilo x = x.rom.ilo
+cell_of cells.Ihi x = x.rom.ihi
+cell_of cells.Klo x = x.rom.klo
+cell_of cells.Khi x = x.rom.khi
+cell_of cells.Jt x = x.rom.jt
+cell_of cells.KindNumber x = x.rom.kind
+cell_of cells.Bi x = x.rom.bi
+cell_of cells.Wr x = x.rom.wr
+cell_of cells.Ld x = x.rom.ld
+cell_of cells.St x = x.rom.st
+cell_of cells.Jr x = x.rom.jr
+cell_of cells.Jp x = x.rom.jp
+cell_of cells.Br x = x.rom.br
+cell_of cells.Inv x = x.rom.inv
+cell_of cells.Halt x = x.rom.halt
+cell_of cells.Uw x = x.rom.uw
 cell_of cells.FirstLow x = low x.a
 cell_of cells.FirstHigh x = high x.a
 cell_of cells.SecondLow x = low x.s

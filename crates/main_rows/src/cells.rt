@@ -4,17 +4,17 @@ ghost use Rattle.step_rows.specs.Words.{low, high};
 ghost use Rattle.step_rows.specs.MainRow.{cleared_bit};
 
 use min_trace::StepRecord;
-use rom_row::{Told, told_at};
 use row_columns::Cell;
 use run_rows::FromStep;
 use rv_word::Instr;
+use step_rows::RomRow;
 
 /// What a step did: what Rom tells of its instruction, with the values of rs1, rs2 and the operation, and its access
 /// to memory, all zeros where it makes none.
 #[derive(Clone, Copy, Debug, PartialEq, Eq)]
 pub struct Done {
     pub pc: u32,
-    pub told: Told,
+    pub rom: RomRow,
     /// rs1's and rs2's values.
     pub a: u64,
     pub s: u64,
@@ -55,7 +55,7 @@ impl FromStep for Done {
         };
         Done {
             pc: (step.pc & 0xffff_ffff) as u32,
-            told: told_at(step.pc, &step.instr),
+            rom: RomRow::of(step.pc, step.instr),
             a: step.a,
             s: step.s,
             c: step.c,
@@ -140,26 +140,26 @@ impl Cell<Done> for MainCell {
         match self {
             MainCell::Selector => 1,
             MainCell::Pc => u64::from(done.pc),
-            MainCell::Rs1 => u64::from(done.told.rs1),
-            MainCell::Rs2 => u64::from(done.told.rs2),
-            MainCell::Rd => u64::from(done.told.rd),
-            MainCell::Op => u64::from(done.told.op),
-            MainCell::Ilo => u64::from(done.told.ilo),
-            MainCell::Ihi => u64::from(done.told.ihi),
-            MainCell::Klo => u64::from(done.told.klo),
-            MainCell::Khi => u64::from(done.told.khi),
-            MainCell::Jt => u64::from(done.told.jt),
-            MainCell::KindNumber => u64::from(done.told.kind),
-            MainCell::Bi => u64::from(done.told.bi),
-            MainCell::Wr => u64::from(done.told.wr),
-            MainCell::Ld => u64::from(done.told.ld),
-            MainCell::St => u64::from(done.told.st),
-            MainCell::Jr => u64::from(done.told.jr),
-            MainCell::Jp => u64::from(done.told.jp),
-            MainCell::Br => u64::from(done.told.br),
-            MainCell::Inv => u64::from(done.told.inv),
-            MainCell::Halt => u64::from(done.told.halt),
-            MainCell::Uw => u64::from(done.told.uw),
+            MainCell::Rs1 => u64::from(done.rom.rs1),
+            MainCell::Rs2 => u64::from(done.rom.rs2),
+            MainCell::Rd => u64::from(done.rom.rd),
+            MainCell::Op => u64::from(done.rom.op),
+            MainCell::Ilo => u64::from(done.rom.ilo),
+            MainCell::Ihi => u64::from(done.rom.ihi),
+            MainCell::Klo => u64::from(done.rom.klo),
+            MainCell::Khi => u64::from(done.rom.khi),
+            MainCell::Jt => u64::from(done.rom.jt),
+            MainCell::KindNumber => u64::from(done.rom.kind),
+            MainCell::Bi => u64::from(done.rom.bi),
+            MainCell::Wr => u64::from(done.rom.wr),
+            MainCell::Ld => u64::from(done.rom.ld),
+            MainCell::St => u64::from(done.rom.st),
+            MainCell::Jr => u64::from(done.rom.jr),
+            MainCell::Jp => u64::from(done.rom.jp),
+            MainCell::Br => u64::from(done.rom.br),
+            MainCell::Inv => u64::from(done.rom.inv),
+            MainCell::Halt => u64::from(done.rom.halt),
+            MainCell::Uw => u64::from(done.rom.uw),
             MainCell::FirstLow => low(done.a),
             MainCell::FirstHigh => high(done.a),
             MainCell::SecondLow => low(done.s),

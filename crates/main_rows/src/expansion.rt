@@ -5,7 +5,7 @@ ghost use Rattle.zk_layout.specs.declared.air.Air.TheVariants.{Main};
 ghost use Rattle.run_rows.specs.Runs.{values_of, IsJobOf};
 ghost use Rattle.row_columns.specs.Cells.{IsTableOf};
 
-use crate::cells::{Done, CELLS};
+use crate::cells::{CELLS, Done};
 use gold::Table;
 use min_trace::{Chunk, instruction_law};
 use planner::Job;

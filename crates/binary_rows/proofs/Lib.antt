@@ -1,0 +1,2 @@
+pub mod BinaryRows
+pub mod ShiftRows

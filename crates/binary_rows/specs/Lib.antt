@@ -1,0 +1,2 @@
+pub mod BinaryCells
+pub mod ShiftCells

@@ -1,0 +1,11 @@
+pub mod Added
+pub mod Begun
+pub mod Cells
+pub mod Order
+pub mod Walked
+pub mod Covered
+pub mod Pairs
+pub mod Values
+pub mod Rising
+pub mod States
+pub mod Run
