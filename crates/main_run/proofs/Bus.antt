@@ -23,7 +23,7 @@ use Rattle.air_mem.specs.Access.{Access, memory_tuple, InReach}
 use Rattle.air_mem.specs.Lists.{initial_write, final_read, final_reads, read_access, IsShaped}
 use Rattle.main_run.specs.Chain.{IsPlace}
 use Rattle.main_run.specs.Bus.{first_read, second_read, old_read, memory_write, register_write, IsWrite, initial, stored, put, IsBus, accesses, BusSupposed, RunBusLaw}
-use Rattle.main_run.proofs.Laws.{MainLaws, StartLaws, MemLaws}
+use Rattle.main_run.proofs.Below.{MainLaws, StartLaws, MemLaws}
 use Rattle.main_run.proofs.Senders.{sent_there, there_sent, map_back, shaped_back, shaped_reach, mapped_reach}
 use Rattle.main_run.proofs.Chain.{told}
 use Rattle.main_run.proofs.Place.{below_all}

@@ -15,7 +15,7 @@ use Rattle.rv_model.specs.Image.{Img}
 use Rattle.air_main.specs.Constants.{MainConstants}
 use Rattle.air_main.specs.Law.{HasMain, Meets, RowConstants, IsRomPc, at_row}
 use Rattle.air_main.specs.Selected.{IsSelected}
-use Rattle.main_run.proofs.Laws.{MainLaws}
+use Rattle.main_run.proofs.Below.{MainLaws}
 use Rattle.main_run.specs.Chain.{MainStands, IsPlace, GoesOn, ChainLaw, RestLaw}
 use Rattle.main_run.proofs.Place.{prior, places_same, inner, outer, after_is}
 

@@ -18,7 +18,7 @@ use Rattle.main_run.specs.Bus.{accesses}
 use Rattle.main_run.specs.Run.{Supposed, Reads, Halted}
 use Rattle.main_run.proofs.Known.{Machine}
 use Rattle.main_run.proofs.Place.{places_same}
-use Rattle.main_run.proofs.Laws.{MainLaws, StartLaws, MemLaws, TextLaws}
+use Rattle.main_run.proofs.Below.{MainLaws, StartLaws, MemLaws, TextLaws}
 use Rattle.main_run.proofs.Chain.{meets, fixed, told as told_of}
 use Rattle.main_run.proofs.Run.{halt_law}
 use Rattle.main_run.proofs.Whole.{supposed}

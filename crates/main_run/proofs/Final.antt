@@ -38,7 +38,7 @@ use Rattle.main_run.specs.Headline.{Headline}
 use Rattle.main_run.specs.Whole.{IsMachine, MachineLaw, RowsLaw}
 use Rattle.main_run.specs.Bus.{accesses}
 use Rattle.main_run.specs.Exact.{NoWrapLaw}
-use Rattle.main_run.proofs.Laws.{MainLaws, StartLaws, MemLaws, TextLaws, ConstantsLaws, AirLaws, ExactLaws}
+use Rattle.main_run.proofs.Below.{MainLaws, StartLaws, MemLaws, TextLaws, ConstantsLaws, AirLaws, ExactLaws}
 use Rattle.main_run.proofs.Known.{Machine}
 use Rattle.main_run.proofs.Tables.{small_tables, shift_table, main_most, mem_most}
 use Rattle.main_run.proofs.Bus.{each_of, received}
@@ -144,21 +144,46 @@ module _ (constants : ConstantsLaws) (airs : AirLaws) (image : Img) (sizes : Siz
         exact.mem ns c b.mem b.mem_holds (accesses ns c image) w.0 w.1 i r h l k
 
     pub all_exact : First IsExactIn 13
-    all_exact =
-        ((λ i r h l. nothings_exact Bit.items (around ns c 0 i r) Bit.items refl),
-        ((λ i r h l. nothings_exact Range16.items (around ns c 1 i r) Range16.items refl),
-        ((λ i r h l. nothings_exact BinTab.items (around ns c 2 i r) BinTab.items refl),
-        ((λ i r h l. nothings_exact ShiftTab.items (around ns c 3 i r) ShiftTab.items refl),
-        ((λ i r h l. nothings_exact Rom.items (around ns c 4 i r) Rom.items refl),
-        ((λ i r h l. nothings_exact Init.items (around ns c 5 i r) Init.items refl),
-        ((λ i r h l. main_exact laws starts mem text exact.main q c image known i r h l),
-        (mem_exact,
-        ((λ i r h l. exact.out ns c i r),
-        ((λ i r h l. exact.align ns c i r align (row_meets ns c 9 Align.items refl (space_holds ns c holds 9) i r h l)),
-        ((λ i r h l. exact.binary ns c i r binary (row_meets ns c 10 Binary.items refl (space_holds ns c holds 10) i r h l)),
-        ((λ i r h l. exact.shift ns c i r shift (row_meets ns c 11 Shift.items refl (space_holds ns c holds 11) i r h l)),
-        ((λ i r h l. exact.arith ns c i r arith_air (row_meets ns c 12 Arith.items refl (space_holds ns c holds 12) i r h l)),
-        tt)))))))))))))
+    all_exact = (
+      (λ i r h l. nothings_exact Bit.items (around ns c 0 i r) Bit.items refl),
+      (
+        (λ i r h l. nothings_exact Range16.items (around ns c 1 i r) Range16.items refl),
+        (
+          (λ i r h l. nothings_exact BinTab.items (around ns c 2 i r) BinTab.items refl),
+          (
+            (λ i r h l. nothings_exact ShiftTab.items (around ns c 3 i r) ShiftTab.items refl),
+            (
+              (λ i r h l. nothings_exact Rom.items (around ns c 4 i r) Rom.items refl),
+              (
+                (λ i r h l. nothings_exact Init.items (around ns c 5 i r) Init.items refl),
+                (
+                  (λ i r h l. main_exact laws starts mem text exact.main q c image known i r h l),
+                  (
+                    mem_exact,
+                    (
+                      (λ i r h l. exact.out ns c i r),
+                      (
+                        (λ i r h l. exact.align ns c i r align (row_meets ns c 9 Align.items refl (space_holds ns c holds 9) i r h l)),
+                        (
+                          (λ i r h l. exact.binary ns c i r binary (row_meets ns c 10 Binary.items refl (space_holds ns c holds 10) i r h l)),
+                          (
+                            (λ i r h l. exact.shift ns c i r shift (row_meets ns c 11 Shift.items refl (space_holds ns c holds 11) i r h l)),
+                            (
+                              (λ i r h l. exact.arith ns c i r arith_air (row_meets ns c 12 Arith.items refl (space_holds ns c holds 12) i r h l)),
+                              tt,
+                            ),
+                          ),
+                        ),
+                      ),
+                    ),
+                  ),
+                ),
+              ),
+            ),
+          ),
+        ),
+      ),
+    )
 
 pub machine_law : MainLaws → StartLaws → MemLaws → TextLaws → ConstantsLaws → AirLaws → MachineLaw
 machine_law laws starts mem text constants airs image sizes c loadable m holds = whole laws starts mem text sizes.profile c image (known constants airs image sizes c loadable m holds)

@@ -20,7 +20,7 @@ use Rattle.main_run.specs.Bus.{IsWrite, initial, stored, put}
 use Rattle.main_run.specs.Run.{Leaves, Supposed, Halted}
 use Rattle.main_run.specs.Headline.{told, PublicsAreOuts, Headline, HeadlineLaw}
 use Rattle.main_run.proofs.Place.{places_same}
-use Rattle.main_run.proofs.Laws.{MainLaws, StartLaws}
+use Rattle.main_run.proofs.Below.{MainLaws, StartLaws}
 use Rattle.main_run.proofs.Chain.{told as told_of}
 use Rattle.main_run.proofs.Leaves.{later, read_is}
 use Rattle.main_run.proofs.Run.{halt_law}

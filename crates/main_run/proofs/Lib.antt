@@ -1,4 +1,4 @@
-pub mod Laws
+pub mod Below
 pub mod Place
 pub mod Chain
 pub mod Leaves

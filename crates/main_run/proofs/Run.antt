@@ -25,7 +25,7 @@ use Rattle.air_mem.specs.Lists.{initial_write}
 use Rattle.main_run.specs.Chain.{IsPlace}
 use Rattle.main_run.specs.Bus.{IsWrite, initial, stored, put}
 use Rattle.main_run.specs.Run.{reading, Leaves, by, untouched, Keeps, Supposed, Fact, Reads, Steps, StepsLaw, BeginLaw, Halted, HaltLaw}
-use Rattle.main_run.proofs.Laws.{MainLaws, StartLaws}
+use Rattle.main_run.proofs.Below.{MainLaws, StartLaws}
 use Rattle.main_run.proofs.Chain.{meets, fixed, told, chain_law, rest_law}
 use Rattle.main_run.proofs.Leaves.{later, read_is, quiet}
 use Rattle.main_run.proofs.Kept.{kept}

@@ -21,7 +21,7 @@ use Rattle.main_run.specs.Bus.{accesses, BusSupposed}
 use Rattle.main_run.specs.Run.{Supposed}
 use Rattle.main_run.specs.Headline.{Headline}
 use Rattle.main_run.proofs.Known.{Machine}
-use Rattle.main_run.proofs.Laws.{MainLaws, StartLaws, MemLaws, TextLaws}
+use Rattle.main_run.proofs.Below.{MainLaws, StartLaws, MemLaws, TextLaws}
 use Rattle.main_run.proofs.Bus.{run_bus_law}
 use Rattle.main_run.proofs.Headline.{headline_law}
 

@@ -8,6 +8,3 @@
 mod laws;
 
 pub use laws::{chain_laws, headline_laws, machine_laws, run_laws};
-
-#[cfg(test)]
-mod tests;
