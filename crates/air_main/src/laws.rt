@@ -2,6 +2,7 @@
 ghost use Rattle.air_main.specs.Constants.{MainConstantsLaw, RomConstantsLaw};
 ghost use Rattle.air_main.specs.Law.{EndsLaw, FollowsLaw, MainExact, ProfilesLaw, RowLaw};
 ghost use Rattle.air_main.specs.Rows.{MainComplete, MainPadding, MainSends};
+ghost use Rattle.air_main.specs.Selected.{SelectedLaw};
 ghost use Rattle.air_main.specs.Table.{MainFilled, RunHasRows};
 
 use min_trace::bounds_law;
@@ -11,6 +12,8 @@ use rv_word::decoding_law;
 pub fn main_laws()
     // A selected row is a step of the machine.
     ensures row { RowLaw }
+    // What the look-ups alone tell of it.
+    ensures selected { SelectedLaw }
     ensures profiles { ProfilesLaw }
 
     // Which row comes next, and the first and the last row.

@@ -4,11 +4,15 @@ use Rattle.air_main.proofs.Decoded.{ranges_of}
 use Rattle.air_main.proofs.RowLaw.{row_law}
 use Rattle.air_main.proofs.Exact.{main_exact}
 use Rattle.air_main.proofs.Chain.{follows_law, ends_law}
+use Rattle.air_main.proofs.Told.{selected_law}
 use Rattle.air_main.proofs.Complete.{main_complete, main_padding, main_sends}
 use Rattle.air_main.proofs.laws.main_laws.Goals as goal
 
 pub returns-clause-row : goal.returns-clause-row
 returns-clause-row c = row_law (ranges_of c.decoding_law.ensures.found c.decoding_law.ensures.range)
+
+pub returns-clause-selected : goal.returns-clause-selected
+returns-clause-selected c = selected_law (ranges_of c.decoding_law.ensures.found c.decoding_law.ensures.range)
 
 pub returns-clause-exact : goal.returns-clause-exact
 returns-clause-exact c = main_exact (ranges_of c.decoding_law.ensures.found c.decoding_law.ensures.range)

@@ -1,0 +1,14 @@
+pub mod Below
+pub mod Place
+pub mod Chain
+pub mod Leaves
+pub mod Kept
+pub mod Senders
+pub mod Bus
+pub mod Run
+pub mod Headline
+pub mod Tables
+pub mod Known
+pub mod Whole
+pub mod Exact
+pub mod Final
