@@ -1,0 +1,10 @@
+//! The tables of a run, made by workers that share a queue of jobs while the run is still made.
+#![tactic(auto)]
+
+mod gate;
+mod hands;
+mod progress;
+
+pub use gate::{Gate, NoGate};
+pub use hands::Hands;
+pub use progress::Progress;
