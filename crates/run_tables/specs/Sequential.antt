@@ -11,7 +11,11 @@ use Rattle.rv_model.specs.Image.{Img}
 use Rattle.rv_model.specs.Run.{end_within, EndsBy, Halted}
 use Rattle.rv_model.specs.declared.answer.Public.{Public}
 use Rattle.rv_model.specs.declared.answer.RunEnd.{RunEnd}
-use Rattle.run_rows.specs.Tables.{tables_of, rows_to}
+use Rattle.min_trace.specs.Chunk.{Piece}
+use Rattle.planner.specs.Jobs.{job_of}
+use Rattle.planner.specs.declared.job.Job.{Job}
+use Rattle.run_rows.specs.Runs.{chunks_to, counts_to}
+use Rattle.run_rows.specs.Tables.{table_of, tables_of, rows_to}
 use Rattle.step_rows.specs.Rows.{row_in}
 use Rattle.mem_rows.specs.Rows.{mem_tables, out_table}
 use Rattle.run_tables.specs.declared.made.Made.{Made}
@@ -29,6 +33,15 @@ sequential_tables image n public =
 -- they are of profile Small
 abbrev pub sequential_witness : Img → ℕ → Public → Witness
 sequential_witness image n public = record { profile = profiles.Small; tables = sequential_tables image n public }
+
+-- the table of a job, of the run's first n steps
+abbrev pub table_for : Img → ℕ → Job → Table
+table_for image n job = table_of job.air (columns_per job.air) job.instance (rows_to job.air (row_in job.air) image n)
+
+-- these are the chunks of the run's first n steps, and the job is one of those that they fill
+pub record IsPlanned (image : Img) (n : ℕ) (chunks : List Piece) (job : Job) : Type 0 where
+  pub run : chunks ≡ chunks_to image n
+  pub planned : job ≡ job_of job.air (counts_to image n) job.instance
 
 -- an answer of a run within a limit of steps, whose tables are made: where it halts they are the sequential ones, of its number
 -- of steps and its public output; else it is how the run ends
