@@ -1,2 +1,5 @@
 pub mod Results
 pub mod Serves
+pub mod Adding
+pub mod Tickets
+pub mod Leads

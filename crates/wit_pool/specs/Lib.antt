@@ -1,3 +1,5 @@
 pub mod Jobs
 pub mod Serving
 pub mod Progress
+pub mod Planned
+pub mod Led

@@ -3,8 +3,10 @@
 
 mod gate;
 mod hands;
+mod lead;
 mod progress;
 
 pub use gate::{Gate, NoGate};
 pub use hands::Hands;
+pub use lead::{Run, Whole};
 pub use progress::Progress;

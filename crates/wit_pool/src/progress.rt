@@ -1,13 +1,14 @@
 //! A run so far.
-ghost use Rattle.std.specs.Prelude.{◌≡◌, ◌+◌, ◌++◌, ◌∷◌, [], ℕ, IfOk, OnOk};
-ghost use Rattle.rv_model.specs.Run.{RunsTo};
+ghost use Rattle.std.specs.Prelude.{◌≡◌, ◌+◌, ◌++◌, ◌∷◌, [], ℕ, All, IfOk, OnOk};
+ghost use Rattle.rv_model.specs.Image.{Img};
 ghost use Rattle.min_trace.specs.Chunk.{IsChunk, first_step};
 ghost use Rattle.mem_rows.specs.Rows.{mem_tables};
-ghost use Rattle.planner.specs.Jobs.{handed, finished};
-ghost use Rattle.run_rows.specs.Runs.{counts_to, Halts};
+ghost use Rattle.mem_rows.specs.Kept.{KeepsTo};
+ghost use Rattle.planner.specs.Jobs.{handed, finished, IsWholeIn};
+ghost use Rattle.run_rows.specs.Runs.{counts_to};
 ghost use Rattle.job_queue.specs.Truth.{IsTrueOf};
 ghost use Rattle.wit_pool.specs.Jobs.{jobs_of};
-ghost use Rattle.wit_pool.specs.Progress.{IsAt, IsReady};
+ghost use Rattle.wit_pool.specs.Progress.{HasChunks, IsAt, IsReady};
 
 use gold::{Sequence, Table};
 use job_queue::Ticket;
@@ -47,6 +48,7 @@ impl Progress {
         requires chunk { IsChunk image.now chunk }
         requires next { IsAt image.now (first_step chunk.number) self.old }
         ensures next { OnOk result (IsAt image.now (first_step chunk.number + chunk.steps) self.new) }
+        ensures whole { IfOk result (λ v. All (IsWholeIn (counts_to image.now (first_step chunk.number + chunk.steps))) v.items) }
         ensures jobs { IfOk result (λ v. handed [] (counts_to image.now (first_step chunk.number + chunk.steps)) ≡ handed [] (counts_to image.now (first_step chunk.number)) ++ v.items) }
     {
         chunks_of_a_run();
@@ -61,7 +63,7 @@ impl Progress {
 
     /// The ticket of a job that was handed out.
     pub fn ticket(&self, job: Job, image: &Image) -> Result<Ticket, AllocError>
-        requires { (n : ℕ) × IsAt image.now n self.now × IsReady image.now n job }
+        requires { (n : ℕ) × HasChunks image.now n self.now.chunks.items × IsReady image.now n job }
         ensures truth { IfOk result (IsTrueOf image.now) }
         ensures job { IfOk result (λ t. jobs_of (t ∷ []) ≡ job ∷ []) }
     {
@@ -70,15 +72,16 @@ impl Progress {
     }
 
     /// Hands out the jobs that are left at the end of a run.
-    pub fn last_jobs(&mut self, image: &Image) -> Result<Vec<Job>, AllocError>
-        ensures { IfOk result (λ v. (n : ℕ) → IsAt image.now n self.old → v.items ≡ finished (counts_to image.now n)) }
+    pub fn last_jobs(&mut self) -> Result<Vec<Job>, AllocError>
+        ensures jobs { IfOk result (λ v. v.items ≡ finished self.old.plan) }
+        ensures same { (self.new.chunks ≡ self.old.chunks) × (self.new.accesses ≡ self.old.accesses) }
     {
         self.plan.finish()
     }
 
     /// The Mem tables of a run that publishes this, all of whose chunks were added.
-    pub fn mem_tables(self, image: &Image, public: &Public) -> Result<Vec<Table>, AllocError>
-        ensures { IfOk result (λ tables. (n : ℕ) → IsAt image.now n self → tables.items ≡ mem_tables image.now n public.now) }
+    pub fn mem_tables(self, public: &Public) -> Result<Vec<Table>, AllocError>
+        ensures { IfOk result (λ tables. (image : Img) (n : ℕ) → KeepsTo image n self.accesses → tables.items ≡ mem_tables image n public.now) }
     {
         self.accesses.finish(public)
     }
