@@ -3,3 +3,4 @@ pub mod Serving
 pub mod Progress
 pub mod Planned
 pub mod Led
+pub mod Crew

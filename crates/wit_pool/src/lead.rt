@@ -1,5 +1,5 @@
 //! What the thread does that makes the run.
-ghost use Rattle.std.specs.Prelude.{◌≡◌, ◌+◌, ◌++◌, [], ℕ, All, IfOk, OnOk};
+ghost use Rattle.std.specs.Prelude.{◌≡◌, ◌+◌, ◌^◌, ◌<◌, ◌++◌, [], ℕ, All, IfOk, OnOk};
 ghost use Rattle.std.specs.Arc.{arc_value};
 ghost use Rattle.rv_model.specs.Run.{RunsTo};
 ghost use Rattle.min_trace.specs.Chunk.{IsChunk, first_step};
@@ -147,6 +147,7 @@ impl Hands {
     ) -> (Hands, Result<Whole, AllocError>)
         requires chunk { IsChunk (image_of queue.now) last.0 }
         requires halts { RunsTo (image_of queue.now) (first_step last.0.number + last.0.steps) last.1 }
+        requires most { first_step last.0.number + last.0.steps < 2 ^ 32 }
         requires progress { IsAt (image_of queue.now) (first_step last.0.number) progress }
         requires serving { IsServing queue.now (shares_of self) (handed_to (image_of queue.now) (first_step last.0.number)) self }
         ensures serving { IsServing queue.now (shares_of self) (pushed_of result.0) result.0 }

@@ -1,11 +1,13 @@
 //! The tables of a run, made by workers that share a queue of jobs while the run is still made.
 #![tactic(auto)]
 
+mod crew;
 mod gate;
 mod hands;
 mod lead;
 mod progress;
 
+pub use crew::Crew;
 pub use gate::{Gate, NoGate};
 pub use hands::Hands;
 pub use lead::{Run, Whole};
