@@ -24,6 +24,25 @@ pub struct Crew {
     pub started: u32,
 }
 
+impl Crew {
+    // With one more that was started.
+    fn one_more(self) -> Crew
+        requires { self.started < 64 }
+        ensures { result ≡ record self { started = self.started + 1 } }
+    {
+        let Crew {
+            mine,
+            waiting,
+            started,
+        } = self;
+        Crew {
+            mine,
+            waiting,
+            started: started + 1,
+        }
+    }
+}
+
 /// That a worker gives back a pass of this queue that pushed nothing, with the tables of what it took.
 #[derive(Clone, Copy)]
 struct GivesBack<'a> {
@@ -118,4 +137,82 @@ fn split_all(alloc: Global, queue: &JobQueue, workers: u32, mine: Hands) -> (Han
         all.push_reserved(theirs);
     }
     (mine, all)
+}
+
+// Starts a worker in a scope of its own, and the others beside it. Where it can't be started, the caller does its work.
+#[cycle(starting)]
+fn start_one<R: Threads + Wait + Sync, G: Gate + Sync>(
+    rt: &R,
+    queue: &JobQueue,
+    gate: &G,
+    run: Run,
+    crew: Crew,
+    theirs: Hands,
+) -> (Hands, Result<Whole, RunEnd>)
+    requires crew { IsCrew queue.now run crew }
+    requires theirs { IsWorker queue.now theirs }
+    requires few { vec_len crew.waiting + crew.started < 64 }
+    ensures { HasLed queue.now run.emu.limit (crew_shares crew + 1) result.1 result.0 }
+{
+    let refused = AtomicBool::new(false);
+    let flag = &refused;
+    thread::scope(
+        thread::scope_env(),
+        rt,
+        |scope| -> (Hands, Result<Whole, RunEnd>)
+            requires { IsSync R.row × IsSync G.row × IsCrew queue.now run crew × IsWorker queue.now theirs × (vec_len crew.waiting + crew.started < 64) }
+            ensures { HasLed queue.entry.now run.emu.limit (crew_shares crew + 1) result.1 result.0 }
+        {
+            let promise = GivesBack { queue };
+            match scope.spawn_with(
+                promise,
+                move || -> Hands
+                    requires { IsWorker queue.now theirs }
+                    ensures { IsWorker queue.entry.now result }
+                { theirs.run(rt, queue, gate, flag) },
+            ) {
+                Ok(worker) => {
+                    let (mine, end) = with_workers(rt, queue, gate, run, crew.one_more());
+                    let theirs = worker.join(rt);
+                    (mine.take_in(queue, theirs), end)
+                }
+                Err(back) => {
+                    flag.store(true, Ordering::SeqCst);
+                    let theirs = (back.value)();
+                    let (mine, end) = with_workers(rt, queue, gate, run, crew);
+                    (mine.take_in(queue, theirs), end)
+                }
+            }
+        },
+    )
+}
+
+/// Starts the workers that wait, and leads them.
+#[cycle(starting)]
+pub fn with_workers<R: Threads + Wait + Sync, G: Gate + Sync>(
+    rt: &R,
+    queue: &JobQueue,
+    gate: &G,
+    run: Run,
+    crew: Crew,
+) -> (Hands, Result<Whole, RunEnd>)
+    requires { IsCrew queue.now run crew }
+    ensures { HasLed queue.now run.emu.limit (crew_shares crew) result.1 result.0 }
+{
+    let Crew {
+        mine,
+        mut waiting,
+        started,
+    } = crew;
+    match waiting.pop() {
+        Some(theirs) => {
+            let rest = Crew {
+                mine,
+                waiting,
+                started,
+            };
+            start_one(rt, queue, gate, run, rest, theirs)
+        }
+        None => mine.lead(rt, queue, gate, run, started),
+    }
 }
