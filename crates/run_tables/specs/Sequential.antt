@@ -1,6 +1,6 @@
 -- The sequential tables of a run (docs/WITNESS.md): the rows of all its steps and accesses, in order, cut into instances and
 -- padded.
-use Rattle.std.specs.Prelude.{◌≡◌, ℕ, List, [], ◌∷◌, ◌++◌, Result, Ok, Err}
+use Rattle.std.specs.Prelude.{◌≡◌, ◌⊎◌, ℕ, List, [], ◌∷◌, ◌++◌, Result, Ok, Err}
 use Rattle.gold.specs.declared.instances.Table.{Table}
 use Rattle.gold.specs.declared.instances.Witness.{Witness}
 use Rattle.gold.specs.declared.shapes.Profile.TheVariants as profiles
@@ -11,6 +11,7 @@ use Rattle.rv_model.specs.Image.{Img}
 use Rattle.rv_model.specs.Run.{end_within, EndsBy, Halted}
 use Rattle.rv_model.specs.declared.answer.Public.{Public}
 use Rattle.rv_model.specs.declared.answer.RunEnd.{RunEnd}
+use Rattle.rv_model.specs.declared.answer.RunEnd.TheVariants as ends
 use Rattle.min_trace.specs.Chunk.{Piece}
 use Rattle.planner.specs.Jobs.{job_of}
 use Rattle.planner.specs.declared.job.Job.{Job}
@@ -48,3 +49,7 @@ pub record IsPlanned (image : Img) (n : ℕ) (chunks : List Piece) (job : Job) :
 abbrev pub Makes : Img → ℕ → Result Made RunEnd → Type 0
 Makes image limit (Ok made) = (end_within image limit ≡ Halted made.steps made.public) × (made.witness ≡ sequential_witness image made.steps made.public)
 Makes image limit (Err end) = EndsBy limit (end_within image limit) end
+
+-- two such answers are the same, but for want of memory
+abbrev pub IsOnlyMaking : Img → ℕ → Result Made RunEnd → Result Made RunEnd → Type 0
+IsOnlyMaking image limit a b = Makes image limit a → Makes image limit b → (a ≡ b) ⊎ ((a ≡ Err ends.NoMemory) ⊎ (b ≡ Err ends.NoMemory))

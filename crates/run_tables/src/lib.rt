@@ -7,6 +7,6 @@ mod made;
 mod naming;
 
 pub use expansion::expand;
-pub use laws::tables_of_jobs;
+pub use laws::{one_making, tables_of_jobs};
 pub use made::Made;
 pub use naming::named;
