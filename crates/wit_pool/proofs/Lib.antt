@@ -3,3 +3,5 @@ pub mod Serves
 pub mod Adding
 pub mod Tickets
 pub mod Leads
+pub mod Orders
+pub mod Places

@@ -4,3 +4,4 @@ pub mod Progress
 pub mod Planned
 pub mod Led
 pub mod Crew
+pub mod Placed

@@ -5,10 +5,12 @@ mod crew;
 mod gate;
 mod hands;
 mod lead;
+mod placing;
 mod progress;
 
 pub use crew::Crew;
 pub use gate::{Gate, NoGate};
 pub use hands::Hands;
 pub use lead::{Run, Whole};
+pub use placing::place;
 pub use progress::Progress;
