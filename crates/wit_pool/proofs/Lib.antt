@@ -5,3 +5,4 @@ pub mod Tickets
 pub mod Leads
 pub mod Orders
 pub mod Places
+pub mod Wholes

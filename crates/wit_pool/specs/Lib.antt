@@ -5,3 +5,4 @@ pub mod Planned
 pub mod Led
 pub mod Crew
 pub mod Placed
+pub mod Pool

@@ -1,5 +1,5 @@
 //! The threads.
-ghost use Rattle.std.specs.Prelude.{◌≡◌, ◌+◌, ◌-◌, ◌<◌, ◌≤◌, [], All, vec_len};
+ghost use Rattle.std.specs.Prelude.{◌≡◌, ◌+◌, ◌-◌, ◌<◌, ◌≤◌, [], All, vec_len, IfOk, OnOk, OnErr};
 ghost use Rattle.std.specs.Thread.{IsSync};
 ghost use Rattle.wit_pool.specs.Crew.{IsWorker, IsCrew, crew_shares};
 ghost use Rattle.wit_pool.specs.Led.{HasLed};
@@ -10,7 +10,7 @@ use crate::hands::Hands;
 use crate::lead::{Run, Whole};
 use job_queue::JobQueue;
 use rv_model::RunEnd;
-use std::alloc::Global;
+use std::alloc::{AllocError, Global};
 use std::sync::Wait;
 use std::sync::atomic::{AtomicBool, Ordering};
 use std::thread;
@@ -118,25 +118,29 @@ impl Hands {
     }
 }
 
-// One share for each worker. There are fewer where memory ran out.
-fn split_all(alloc: Global, queue: &JobQueue, workers: u32, mine: Hands) -> (Hands, Vec<Hands>)
+/// One share for each worker. Where memory ran out none is split off.
+pub fn split_all(
+    alloc: Global,
+    queue: &JobQueue,
+    workers: u32,
+    mine: Hands,
+) -> (Hands, Result<Vec<Hands>, AllocError>)
     requires serves { Serves queue.now mine }
     requires shares { workers < shares_of mine }
-    ensures serving { IsServing queue.now (shares_of mine - vec_len result.1) (pushed_of mine) result.0 }
-    ensures workers { All (IsWorker queue.now) result.1.items }
-    ensures len { vec_len result.1 ≤ workers }
+    ensures mine { OnOk result.1 (IsServing queue.now (shares_of mine - workers) (pushed_of mine) result.0) }
+    ensures workers { IfOk result.1 (λ all. All (IsWorker queue.now) all.items × (vec_len all ≡ workers)) }
+    ensures none { OnErr result.1 (result.0 ≡ mine) }
 {
+    let Ok(mut all) = Vec::with_capacity(alloc, workers as usize) else {
+        return (mine, Err(AllocError));
+    };
     let mut mine = mine;
-    let mut all = Vec::new(alloc);
     for _ in 0..workers {
-        if all.reserve(1).is_err() {
-            return (mine, all);
-        }
         let (next, theirs) = mine.split_off(alloc, queue);
         mine = next;
         all.push_reserved(theirs);
     }
-    (mine, all)
+    (mine, Ok(all))
 }
 
 // Starts a worker in a scope of its own, and the others beside it. Where it can't be started, the caller does its work.

@@ -45,7 +45,7 @@ impl Run {
     /// The image's run for at most `limit` steps, of which nothing is made yet.
     pub fn new(alloc: Global, image: Arc<Image>, limit: u32) -> Result<Run, AllocError>
         ensures running { IfOk result (IsRunning (arc_value image) limit) }
-        ensures number { IfOk result (λ r. r.emu.number ≡ 0) }
+        ensures number { IfOk result (λ run. run.emu.number ≡ 0) }
     {
         let progress = Progress::new(alloc, &image)?;
         let emu = Emu::new(alloc, image, limit)?;

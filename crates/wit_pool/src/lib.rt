@@ -2,6 +2,7 @@
 #![tactic(auto)]
 
 mod crew;
+mod expansion;
 mod gate;
 mod hands;
 mod lead;
@@ -9,6 +10,7 @@ mod placing;
 mod progress;
 
 pub use crew::Crew;
+pub use expansion::expand_all;
 pub use gate::{Gate, NoGate};
 pub use hands::Hands;
 pub use lead::{Run, Whole};
