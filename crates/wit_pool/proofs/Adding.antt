@@ -64,5 +64,5 @@ pub whole_more : AddedWhole → CountsMore → (image : Img) (c : Piece) (given 
     → All (IsWholeIn (counts_to image (first_step c.number + c.steps))) js
 whole_more added_law counts_law image c given k js is at e j =
     let more : counts_to image (first_step c.number + c.steps) ≡ (given ++ k ∷ []) ++ [] =
-        counts_law image c is ∙ ap (λ x. counts_to image (first_step c.number) ++ x ∷ []) (sym e) ∙ ap (λ xs. xs ++ k ∷ []) (sym at) ∙ sym (append-nil (given ++ k ∷ [])) in
+    counts_law image c is ∙ ap (λ x. counts_to image (first_step c.number) ++ x ∷ []) (sym e) ∙ ap (λ xs. xs ++ k ∷ []) (sym at) ∙ sym (append-nil (given ++ k ∷ [])) in
     subst (λ xs. All (IsWholeIn xs) js) (sym more) (subst (λ l. All (IsWholeIn ((given ++ k ∷ []) ++ [])) l) (sym j) (added_law given k []))

@@ -63,13 +63,13 @@ in_range {X} key f (x ∷ xs) a (suc n) up same all =
     let high : key x ≤ a = found_above key (key x) a (x ∷ xs) (head_least key x xs up) (omega arith) in
     let e : key x ≡ a = omega arith in
     let rest = in_range key f xs (a + 1) n (IsNonDecreasingBy-drop key 1 (x ∷ xs) up)
-        (λ k.
-            let c = sum_by-cons (w k) x xs in
-            let d = sum_by-cons (is_at k) a (range_with_len (a + 1) n) in
-            let s = same k in
-            let t : is_at k (key x) ≡ is_at k a = ap (is_at k) e in
-            omega arith)
-        (All-tail (λ (y : X). y ≡ f (key y)) x xs all) in
+    (λ k.
+    let c = sum_by-cons (w k) x xs in
+    let d = sum_by-cons (is_at k) a (range_with_len (a + 1) n) in
+    let s = same k in
+    let t : is_at k (key x) ≡ is_at k a = ap (is_at k) e in
+    omega arith)
+    (All-tail (λ (y : X). y ≡ f (key y)) x xs all) in
     let front : x ≡ f a = All-head (λ (y : X). y ≡ f (key y)) x xs all ∙ ap f e in
     ap (λ y. y ∷ xs) front ∙ ap (λ l. f a ∷ l) rest
 

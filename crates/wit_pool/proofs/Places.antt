@@ -107,9 +107,9 @@ in_order law image n made sorted are same up = λ air.
     let mine : Table → Bool = λ t. air_number air == t.air in
     let own : All (IsItsOwn image n air) sorted = All-permutation (IsItsOwn image n air) made sorted same (subst (All (IsItsOwn image n air)) (sym are.1) (own_tables image n air are.0)) in
     in_range (λ (t : Table). t.instance) (instance_at image n air) (of_number (air_number air) sorted) 0 (job_count air (counts_to image n))
-        (IsNonDecreasingBy-filter (λ (t : Table). t.instance) mine sorted up)
-        (λ k. counted image n air are.0 made sorted k are.1 are.2 same)
-        (passed mine (λ (t : Table). t ≡ instance_at image n air t.instance) sorted own)
+    (IsNonDecreasingBy-filter (λ (t : Table). t.instance) mine sorted up)
+    (λ k. counted image n air are.0 made sorted k are.1 are.2 same)
+    (passed mine (λ (t : Table). t ≡ instance_at image n air t.instance) sorted own)
     ∙ sym (law air image n ∙ map_map (table_for image n) (job_of air (counts_to image n)) (range_with_len 0 (job_count air (counts_to image n))))
 
 -- the weight of a ticket by its job
@@ -196,8 +196,8 @@ placed image n public s r1 r2 r3 r4 mem t1 t2 t3 t4 t5 t6 t7 out order d1 d2 d3 
     let e3 : t3 ≡ (a ++ b) ++ c = behind t3 t2 (of_number (air_number Binary) r1) (a ++ b) c h3 e2 (d1 (air_number Binary) binary_main ∙ order Binary) in
     let e4 : t4 ≡ ((a ++ b) ++ c) ++ d = behind t4 t3 (of_number (air_number Shift) r2) ((a ++ b) ++ c) d h4 e3 (d2 (air_number Shift) shift_binary ∙ d1 (air_number Shift) shift_main ∙ order Shift) in
     let e5 : t5 ≡ (((a ++ b) ++ c) ++ d) ++ e =
-        behind t5 t4 (of_number (air_number Arith) r3) (((a ++ b) ++ c) ++ d) e h5 e4 (d3 (air_number Arith) arith_shift ∙ d2 (air_number Arith) arith_binary ∙ d1 (air_number Arith) arith_main ∙ order Arith) in
+    behind t5 t4 (of_number (air_number Arith) r3) (((a ++ b) ++ c) ++ d) e h5 e4 (d3 (air_number Arith) arith_shift ∙ d2 (air_number Arith) arith_binary ∙ d1 (air_number Arith) arith_main ∙ order Arith) in
     let e6 : t6 ≡ ((((a ++ b) ++ c) ++ d) ++ e) ++ f =
-        behind t6 t5 (of_number (air_number Align) r4) ((((a ++ b) ++ c) ++ d) ++ e) f h6 e5
-        (d4 (air_number Align) align_arith ∙ d3 (air_number Align) align_shift ∙ d2 (air_number Align) align_binary ∙ d1 (air_number Align) align_main ∙ order Align) in
+    behind t6 t5 (of_number (air_number Align) r4) ((((a ++ b) ++ c) ++ d) ++ e) f h6 e5
+    (d4 (air_number Align) align_arith ∙ d3 (air_number Align) align_shift ∙ d2 (air_number Align) align_binary ∙ d1 (air_number Align) align_main ∙ order Align) in
     behind t7 t6 (out ∷ []) (((((a ++ b) ++ c) ++ d) ++ e) ++ f) g h7 e6 (ap (λ t. t ∷ []) o)

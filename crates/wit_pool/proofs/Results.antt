@@ -48,6 +48,13 @@ made_more image ts t old new was is = λ n h.
     is n h ∙ ap (λ l. l ++ map (table_for image n) (jobs_of (t ∷ []))) (was n h)
     ∙ sym (map-append (table_for image n) (jobs_of ts) (jobs_of (t ∷ []))) ∙ ap (map (table_for image n)) (sym (jobs-append ts (t ∷ [])))
 
+-- and where it is a job's
+pub made_work : (image i : Img) (ts : List Ticket) (t : Ticket) (job : Job) (chunks : List (Arc Piece Global)) (old new : List Table) → i ≡ image → t ≡ Work job chunks → AreTables image ts old
+    → ((n : ℕ) → Halts i n → new ≡ old ++ table_for i n job ∷ []) → AreTables image (ts ++ t ∷ []) new
+made_work image i ts t job chunks old new same e was is =
+    let here : (n : ℕ) → Halts image n → new ≡ old ++ table_for image n job ∷ [] = subst (λ (x : Img). (n : ℕ) → Halts x n → new ≡ old ++ table_for x n job ∷ []) same is in
+    subst (λ (u : Ticket). AreTables image (ts ++ u ∷ []) new) (sym e) (made_more image ts (Work job chunks) old new was here)
+
 -- a stop has no table
 pub made_stop : (image : Img) (ts : List Ticket) (tables : List Table) → AreTables image ts tables → AreTables image (ts ++ Stop ∷ []) tables
 unfolding AreTables

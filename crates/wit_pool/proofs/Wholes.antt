@@ -82,7 +82,7 @@ makes q image limit l n w h js made same most run s tickets long is witness =
     let tables = s.made long w.steps (w.public, run.halts) in
     let are : AreMade i w.steps h.done.items = (jobs_of (view h.pass).taken, tables, all_taken i w.steps (view h.pass).pushed (view h.pass).taken tickets all) in
     let here : made.witness ≡ sequential_witness i made.steps made.public =
-        witness i are run.mem ∙ ap (λ k. sequential_witness i k w.public) (sym is.0) ∙ ap (λ (p : Public). sequential_witness i made.steps p) (sym is.1) in
+    witness i are run.mem ∙ ap (λ k. sequential_witness i k w.public) (sym is.0) ∙ ap (λ (p : Public). sequential_witness i made.steps p) (sym is.1) in
     let ends : end_within i limit ≡ Halted made.steps made.public =
-        ap (end_within i) (sym most) ∙ run.ends ∙ ap (λ k. Halted k w.public) (sym is.0) ∙ ap (λ (p : Public). Halted made.steps p) (sym is.1) in
+    ap (end_within i) (sym most) ∙ run.ends ∙ ap (λ k. Halted k w.public) (sym is.0) ∙ ap (λ (p : Public). Halted made.steps p) (sym is.1) in
     (ap (λ (x : Img). end_within x limit) same ∙ ends, here ∙ ap (λ (x : Img). sequential_witness x made.steps made.public) (sym same))

@@ -125,12 +125,7 @@ impl Hands {
     }
 
     // One try to push.
-    fn put<R: Wait>(
-        self,
-        rt: &R,
-        queue: &JobQueue,
-        ticket: Ticket,
-    ) -> (Hands, Result<(), Full>)
+    fn put<R: Wait>(self, rt: &R, queue: &JobQueue, ticket: Ticket) -> (Hands, Result<(), Full>)
         requires serves { Serves queue.now self }
         requires ticket { IsTrueOf (image_of queue.now) ticket }
         ensures { MatchResult result.1 (λ _. IsServing queue.now (shares_of self) (pushed_of self ++ jobs_of (ticket ∷ [])) result.0) (λ full. (full.0 ≡ ticket) × IsServing queue.now (shares_of self) (pushed_of self) result.0) }

@@ -9,10 +9,8 @@ mod lead;
 mod placing;
 mod progress;
 
-pub use crew::Crew;
 pub use expansion::expand_all;
 pub use gate::{Gate, NoGate};
-pub use hands::Hands;
-pub use lead::{Run, Whole};
-pub use placing::place;
-pub use progress::Progress;
+
+#[cfg(test)]
+mod tests;

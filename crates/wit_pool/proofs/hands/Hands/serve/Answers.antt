@@ -1,15 +1,8 @@
-use Rattle.std.proofs.Common.{arith, List, ◌≡◌, ℕ, ◌++◌, ◌∷◌, [], sym, ap, ◌∙◌, subst, append-nil}
-use Rattle.std.proofs.lemmas.Grind.{common_steps}
+use Rattle.std.proofs.Common.{◌≡◌, ◌++◌, ◌∷◌, [], sym, ◌∙◌, subst}
 use Rattle.job_queue.specs.Calls.{image_of}
-use Rattle.job_queue.specs.Truth.{IsTrueOf, IsTrueJob}
 use Rattle.job_queue.specs.declared.ticket.Ticket.{Ticket}
-use Rattle.job_queue.specs.declared.ticket.Ticket.TheVariants.{Work}
-use Rattle.rv_model.specs.Image.{Img}
-use Rattle.run_rows.specs.Runs.{Halts}
-use Rattle.run_tables.specs.Sequential.{table_for}
-use Rattle.wit_pool.specs.Jobs.{jobs_of}
 use Rattle.wit_pool.specs.Serving.{AreTables}
-use Rattle.wit_pool.proofs.Results.{made_more, made_stop, or_false, true_work, had_memory}
+use Rattle.wit_pool.proofs.Results.{made_work, made_stop, or_false, true_work, had_memory}
 use Rattle.wit_pool.proofs.hands.Hands.serve.Goals as goal
 
 pub make-requires : goal.make-requires
@@ -17,11 +10,9 @@ make-requires g c = true_work (image_of c.args.queue.now) c.image.result.now c.a
 
 pub returns-in-Work-clause-made : goal.returns-in-Work-clause-made
 returns-in-Work-clause-made g c = λ ts was short.
-    let image = image_of c.args.queue.now in
     let both = or_false c.args.self.short c.is_err-lacks.result short in
-    let new = had_memory c.make.result _ (sym c.is_err-lacks.ensures.value ∙ both.1) c.make.ensures in
-    subst (λ (t : Ticket). AreTables image (ts ++ t ∷ []) c.make.new.done.items) (sym c.in-Work.is)
-    (made_more image ts (Work c.in-Work.job c.in-Work.chunks) c.args.self.done.items c.make.new.done.items (was both.0) (λ n halts. new n (subst (λ (i : Img). Halts i n) (sym c.image.ensures) halts) ∙ ap (λ (i : Img). c.args.self.done.items ++ table_for i n c.in-Work.job ∷ []) c.image.ensures))
+    made_work (image_of c.args.queue.now) c.image.result.now ts c.args.ticket.now c.in-Work.job c.in-Work.chunks c.args.self.done.items c.make.new.done.items c.image.ensures c.in-Work.is (was both.0)
+    (had_memory c.make.result _ (sym c.is_err-lacks.ensures.value ∙ both.1) c.make.ensures)
 
 pub returns-in-Stop-clause-made : goal.returns-in-Stop-clause-made
 returns-in-Stop-clause-made g c = λ ts was short.
