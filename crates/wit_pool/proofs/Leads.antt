@@ -1,13 +1,12 @@
 -- What holds of the pass that leads.
-use Rattle.std.proofs.Common.{◌≡◌, ℕ, ◌+◌, ◌*◌, ◌/◌, ◌%◌, ◌<◌, ◌≤◌, List, [], ◌∷◌, ◌++◌, refl, sym, ap, ◌∙◌, subst, arith, Result, Ok, Err}
+use Rattle.std.proofs.Common.{◌≡◌, ℕ, ◌+◌, ◌≤◌, List, [], ◌++◌, refl, sym, ap, ◌∙◌, subst, arith, Result, Ok, Err}
 use Rattle.std.specs.Prelude.{All, OnOk}
 use Rattle.std.specs.declared.sync.Arc.{Arc}
 use Rattle.std.specs.declared.alloc.Global.{Global}
 use Rattle.rv_model.specs.Image.{Img}
-use Rattle.rv_model.specs.Run.{RunsTo, end_within, EndsBy}
+use Rattle.rv_model.specs.Run.{RunsTo, end_within}
 use Rattle.rv_model.specs.declared.answer.RunEnd.{RunEnd}
 use Rattle.rv_model.specs.declared.answer.RunEnd.TheVariants as ends
-use Rattle.min_trace.specs.declared.chunk.TheConstants.{STEPS_PER_CHUNK}
 use Rattle.rv_model.specs.declared.answer.Public.{Public}
 use Rattle.rv_emu.specs.Answered.{Place, Answered, IsWhole}
 use Rattle.rv_emu.specs.Answered as emulated
@@ -18,14 +17,13 @@ use Rattle.planner.specs.declared.job.Job.{Job}
 use Rattle.planner.specs.Jobs.{handed, finished, jobs, whole, all_jobs, of_air, IsJobIn, IsWholeIn}
 use Rattle.run_rows.specs.Runs.{counts_to}
 use Rattle.wit_pool.specs.declared.progress.Progress.{Progress}
-use Rattle.wit_pool.specs.declared.lead.Run.{Run}
 use Rattle.wit_pool.specs.Progress.{HasChunks, IsAt, IsBorder, IsReady}
 use Rattle.job_queue.specs.Calls.{image_of}
 use Rattle.job_queue.specs.declared.queue.JobQueue.{JobQueue}
 use Rattle.wit_pool.specs.declared.hands.Hands.{Hands}
 use Rattle.wit_pool.specs.declared.lead.Whole.{Whole}
 use Rattle.wit_pool.specs.Serving.{IsServing, pushed_of}
-use Rattle.wit_pool.specs.Planned.{AreAllJobs, AreWholeJobs, AreJobsBefore, chunk_start}
+use Rattle.wit_pool.specs.Planned.{AreAllJobs, AreWholeJobs, chunk_start}
 use Rattle.wit_pool.specs.Led.{IsRunning, HasLed, Leads, handed_to}
 use Rattle.wit_pool.proofs.Tickets.{WholeJobs, LastJobs, all_ready, all_last}
 

@@ -1,12 +1,12 @@
 -- The tables of jobs, each air's in order.
-use Rattle.std.proofs.Common.{◌≡◌, ◌≢◌, ℕ, ◌+◌, ◌<◌, ◌==◌, Bool, true, false, cond, inl, inr, List, [], ◌∷◌, ◌++◌, map, get_or, refl, sym, ap, ◌∙◌, subst, arith}
+use Rattle.std.proofs.Common.{◌≡◌, ◌≢◌, ℕ, ◌+◌, ◌==◌, Bool, true, false, cond, List, [], ◌∷◌, ◌++◌, map, get_or, refl, sym, ap, ◌∙◌, subst, arith}
 use Rattle.std.specs.Prelude.{All, filter}
 use Rattle.std.specs.List.{sum_by, range_with_len}
 use Rattle.std.specs.List.Sorted.{IsNonDecreasingBy, IsPermutation}
 use Rattle.std.proofs.lemmas.List.Sums.{sum_by-cons}
 use Rattle.std.proofs.lemmas.List.Sorted.{sum_by-IsPermutation, All-permutation}
 use Rattle.std.proofs.lemmas.List.Kept.{IsNonDecreasingBy-filter}
-use Rattle.std.proofs.lemmas.List.Elements.{All-nil, All-cons, All-head, All-tail, All-map}
+use Rattle.std.proofs.lemmas.List.Elements.{All-nil, All-cons, All-head, All-tail}
 use Rattle.std.proofs.lemmas.Bool.Decides.{nat_tests}
 use Rattle.gold.specs.declared.instances.Table.{Table}
 use Rattle.rv_model.specs.Image.{Img}
@@ -17,7 +17,7 @@ use Rattle.zk_layout.specs.declared.air.Air.TheVariants.{Main, Mem, Binary, Shif
 use Rattle.mem_rows.specs.Rows.{mem_tables, out_table}
 use Rattle.rv_model.specs.declared.answer.Public.{Public}
 use Rattle.planner.specs.declared.job.Job.{Job}
-use Rattle.planner.specs.Jobs.{job_of, job_count, all_jobs, of_air}
+use Rattle.planner.specs.Jobs.{job_of, job_count, all_jobs}
 use Rattle.run_rows.specs.Runs.{counts_to}
 use Rattle.run_rows.specs.Tables.{table_of, rows_to}
 use Rattle.run_tables.specs.Sequential.{step_tables, table_for, sequential_tables}

@@ -2,7 +2,6 @@
 use Rattle.std.proofs.Common.{◌≡◌, ℕ, ◌+◌, ◌-◌, false, List, [], ◌∷◌, ◌++◌, refl, sym, ap, ◌∙◌, append-nil, subst, Result, Ok, Err, MatchResult}
 use Rattle.std.specs.Prelude.{OnOk, IfErr}
 use Rattle.crossbeam_queue.specs.Passes.{Pass, view}
-use Rattle.gold.specs.declared.instances.Table.{Table}
 use Rattle.planner.specs.declared.job.Job.{Job}
 use Rattle.job_queue.specs.declared.ticket.Ticket.{Ticket}
 use Rattle.job_queue.specs.declared.rule.View.{View}
@@ -12,7 +11,7 @@ use Rattle.job_queue.specs.Rule.{with_pushed, joined, less_one, one_of}
 use Rattle.job_queue.specs.Calls.{IsOf, image_of}
 use Rattle.wit_pool.specs.declared.hands.Hands.{Hands}
 use Rattle.wit_pool.specs.Jobs.{jobs_of}
-use Rattle.wit_pool.specs.Serving.{AreTables, IsServing, Serves, pushed_of}
+use Rattle.wit_pool.specs.Serving.{AreTables, IsServing, Serves}
 use Rattle.wit_pool.proofs.Results.{jobs-append, made_both, none_made}
 
 -- a pass that pushed one ticket more

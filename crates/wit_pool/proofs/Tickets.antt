@@ -1,22 +1,21 @@
 -- What is known of the jobs that are handed out.
-use Rattle.std.proofs.Common.{◌≡◌, ◌+◌, ◌-◌, ◌*◌, ◌%◌, ◌/◌, ◌<◌, ◌≤◌, inl, inr, ◌⊎◌, ℕ, List, [], ◌∷◌, ◌++◌, refl, ap, sym, ◌∙◌, subst, arith}
+use Rattle.std.proofs.Common.{◌≡◌, ◌-◌, ◌%◌, ◌<◌, ◌≤◌, inl, inr, ℕ, List, refl, ap, sym, ◌∙◌, subst, arith}
 use Rattle.std.specs.Prelude.{All}
 use Rattle.std.proofs.lemmas.Bool.{cases_lt}
 use Rattle.std.proofs.lemmas.List.Elements.{All-weaker}
 use Rattle.std.specs.declared.sync.Arc.{Arc}
 use Rattle.std.specs.declared.alloc.Global.{Global}
 use Rattle.rv_model.specs.Image.{Img}
-use Rattle.rv_model.specs.State.{Answer, Halt}
+use Rattle.rv_model.specs.State.{Halt}
 use Rattle.rv_model.specs.Run.{RunsTo, MeetsLimit, IsNext, step_at}
 use Rattle.rv_model.specs.declared.answer.Public.{Public}
-use Rattle.min_trace.specs.Chunk.{Piece, IsChunk, first_step}
+use Rattle.min_trace.specs.Chunk.{Piece, IsChunk}
 use Rattle.min_trace.specs.declared.chunk.TheConstants.{STEPS_PER_CHUNK}
 use Rattle.planner.specs.declared.job.Job.{Job}
 use Rattle.planner.specs.Jobs.{IsJobIn, IsWholeIn}
 use Rattle.run_rows.specs.Runs.{chunks_to, counts_to, named_by, values_of, Halts, Later, IsJobOf}
 use Rattle.run_tables.specs.Sequential.{IsPlanned}
-use Rattle.job_queue.specs.Truth.{IsTrueOf, IsTrueJob}
-use Rattle.job_queue.specs.declared.ticket.Ticket.{Ticket}
+use Rattle.job_queue.specs.Truth.{IsTrueOf}
 use Rattle.job_queue.specs.declared.ticket.Ticket.TheVariants.{Work}
 use Rattle.wit_pool.specs.Progress.{HasChunks, IsBorder, IsReady}
 

@@ -1,24 +1,20 @@
 -- The whole call: how it begins and what it makes.
-use Rattle.std.proofs.Common.{◌≡◌, ℕ, ◌+◌, ◌*◌, ◌≤◌, false, List, [], ◌∷◌, map, vec_len, refl, sym, ap, ◌∙◌, subst, arith}
+use Rattle.std.proofs.Common.{◌≡◌, ℕ, ◌≤◌, false, List, [], vec_len, refl, sym, ap, ◌∙◌, subst, arith}
 use Rattle.std.specs.Prelude.{All}
 use Rattle.std.specs.Global.{Vec}
 use Rattle.crossbeam_queue.specs.Passes.{view}
-use Rattle.gold.specs.declared.instances.Table.{Table}
 use Rattle.rv_model.specs.Image.{Img}
 use Rattle.rv_model.specs.Run.{end_within, Halted}
 use Rattle.rv_model.specs.declared.answer.Public.{Public}
 use Rattle.min_trace.specs.Chunk.{first_step}
 use Rattle.mem_rows.specs.Rows.{mem_tables}
 use Rattle.planner.specs.declared.job.Job.{Job}
-use Rattle.run_rows.specs.Runs.{Halts}
 use Rattle.run_tables.specs.declared.made.Made.{Made}
-use Rattle.run_tables.specs.Sequential.{table_for, sequential_witness}
+use Rattle.run_tables.specs.Sequential.{sequential_witness}
 use Rattle.job_queue.specs.declared.queue.JobQueue.{JobQueue}
 use Rattle.job_queue.specs.declared.rule.View.{View}
-use Rattle.job_queue.specs.declared.ticket.Ticket.{Ticket}
 use Rattle.job_queue.specs.Calls.{IsOf, image_of, shares_of}
 use Rattle.job_queue.specs.Rule.{whole, HaveSameTickets}
-use Rattle.wit_pool.specs.declared.crew.Crew.{Crew}
 use Rattle.wit_pool.specs.declared.hands.Hands.{Hands}
 use Rattle.wit_pool.specs.declared.lead.Run.{Run}
 use Rattle.wit_pool.specs.declared.lead.Whole.{Whole}
@@ -28,7 +24,7 @@ use Rattle.wit_pool.specs.Led.{IsRunning, IsWhole, handed_to}
 use Rattle.wit_pool.specs.Placed.{AreMade}
 use Rattle.wit_pool.specs.Planned.{AreAllJobs}
 use Rattle.wit_pool.specs.Progress.{IsAt}
-use Rattle.wit_pool.specs.Serving.{AreTables, IsServing, Serves, shares_of as hand_shares, pushed_of}
+use Rattle.wit_pool.specs.Serving.{AreTables, IsServing, Serves}
 use Rattle.wit_pool.proofs.Results.{none_made}
 use Rattle.wit_pool.proofs.Places.{all_taken}
 

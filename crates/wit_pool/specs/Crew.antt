@@ -1,5 +1,5 @@
 -- The threads of a call.
-use Rattle.std.specs.Prelude.{◌≡◌, ℕ, ◌+◌, ◌≤◌, [], All, vec_len}
+use Rattle.std.specs.Prelude.{ℕ, ◌+◌, ◌≤◌, [], All, vec_len}
 use Rattle.min_trace.specs.Chunk.{first_step}
 use Rattle.job_queue.specs.Calls.{image_of}
 use Rattle.job_queue.specs.declared.queue.JobQueue.{JobQueue}

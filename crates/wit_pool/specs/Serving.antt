@@ -1,5 +1,5 @@
 -- What holds of a thread's pass and of the tables that it keeps.
-use Rattle.std.specs.Prelude.{◌≡◌, ℕ, false, List, [], ◌∷◌, map}
+use Rattle.std.specs.Prelude.{◌≡◌, ℕ, false, List, map}
 use Rattle.crossbeam_queue.specs.Passes.{view}
 use Rattle.gold.specs.declared.instances.Table.{Table}
 use Rattle.rv_model.specs.Image.{Img}

@@ -1,9 +1,9 @@
-use Rattle.std.proofs.Common.{rules, ◌≡◌, ◌∙◌, List, [], refl, sym, ap, subst}
+use Rattle.std.proofs.Common.{rules, sym, ap, subst}
 use Rattle.std.specs.Arc.{arc_value}
 use Rattle.crossbeam_queue.specs.Passes.{Pass, view}
 use Rattle.job_queue.specs.declared.rule.View.{View}
 use Rattle.job_queue.specs.declared.ticket.Ticket.{Ticket}
-use Rattle.job_queue.specs.Calls.{HasAll, image_of}
+use Rattle.job_queue.specs.Calls.{HasAll}
 use Rattle.job_queue.specs.Rule.{HaveSameTickets}
 use Rattle.wit_pool.specs.Jobs.{jobs_of}
 use Rattle.wit_pool.specs.Serving.{pushed_of}

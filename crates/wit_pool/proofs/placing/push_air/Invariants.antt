@@ -1,5 +1,4 @@
 use Rattle.std.proofs.Common.{◌≡◌, ◌≢◌, ◌++◌, ℕ}
-use Rattle.zk_layout.specs.Air.{air_number}
 use Rattle.wit_pool.specs.Placed.{of_number}
 use Rattle.wit_pool.proofs.placing.push_air.Given as goal
 

@@ -1,4 +1,4 @@
-use Rattle.std.proofs.Common.{sym, ◌∙◌, ◌≡◌, false}
+use Rattle.std.proofs.Common.{sym, ◌∙◌}
 use Rattle.wit_pool.specs.Serving.{shares_of}
 use Rattle.wit_pool.proofs.Results.{had_memory}
 use Rattle.wit_pool.proofs.Leads.{stepped, led_err}

@@ -1,4 +1,4 @@
-use Rattle.std.proofs.Common.{◌≡◌, ◌++◌, ◌∷◌, [], sym, ◌∙◌, subst}
+use Rattle.std.proofs.Common.{◌++◌, ◌∷◌, [], sym, ◌∙◌, subst}
 use Rattle.job_queue.specs.Calls.{image_of}
 use Rattle.job_queue.specs.declared.ticket.Ticket.{Ticket}
 use Rattle.wit_pool.specs.Serving.{AreTables}
