@@ -1,0 +1,7 @@
+mod Cases
+mod Small
+mod Rows
+mod Counts
+mod Values
+mod Machine
+mod Publics
