@@ -95,11 +95,11 @@ column_small (c ∷ cs) (suc k) r h = column_small cs k r (λ j d l. h (suc j) d
 
 pub value_small : (ts : List Table) (s i k r : ℕ) → All (λ t. AreCanonical t.columns) ts → value_at ts s i k r < p
 value_small [] s i k r h = omega arith
-value_small (t ∷ ts) s i k r h = by (is_instance s i t)
+value_small (t ∷ ts) s i k r h = by (is_instance s i t) (value_small ts s i k r (λ j d l. h (suc j) d (omega arith)))
   where
-    by : (b : Bool) → option_map_or (value_in k r) (cond b (Some t) (find (is_instance s i) ts)) 0 < p
-    by true = column_small t.columns k r (h 0 t (omega arith))
-    by false = value_small ts s i k r (λ j d l. h (suc j) d (omega arith))
+    by : (b : Bool) → value_at ts s i k r < p → option_map_or (value_in k r) (cond b (Some t) (find (is_instance s i) ts)) 0 < p
+    by true rest = column_small t.columns k r (h 0 t (omega arith))
+    by false rest = rest
 
 pub canonical : (w : Witness) → AreWellFormed w → All (λ t. AreCanonical t.columns) w.tables
 canonical w h = filled_canonical (places_from 0 (airs_of (machine_shape_of Two) w) (counts_of (machine_shape_of Two) w)) w.tables h.filled

@@ -4,4 +4,5 @@ mod Rows
 mod Counts
 mod Values
 mod Machine
+mod Found
 mod Publics

@@ -103,48 +103,49 @@ fitting image w h = record {
 
 -- ---- their constants
 
-has_constants : (image : Img) (w : Witness) (space : Namespace) (s height count : ℕ) → namespace_number space ≡ s → namespace_at s ≡ space → s < 13 → rows_at w s ≡ height
-    → constants_per space ≡ count → count ≤ width_at w s → HasConstants image (sizes_of w) (values_of image w) space height count
-has_constants image w space s height count number at below rows per wide = record {
-  instances = subst IsCount (sym number) counted;
-  rows = subst (λ n. rows_at w n ≡ height) (sym number) rows;
-  values = λ i k r a b c. subst (HasValue i k r) (sym number) (valued i k r c) a b;
-}
-  where
-    abbrev IsCount : ℕ → Type 0
-    IsCount n = instances_at image w n ≡ C.instances_of image (sizes_of w) space
+module _ (image : Img) (w : Witness) (space : Namespace) (height count : ℕ) where
+  abbrev IsCount : ℕ → Type 0
+  IsCount s = instances_at image w s ≡ C.instances_of image (sizes_of w) space
 
-    counted : IsCount s
-    counted = subst (λ x. instances_at image w s ≡ C.instances_of image (sizes_of w) x) at refl
+  counted : (s : ℕ) → namespace_at s ≡ space → IsCount s
+  counted s at = subst (λ x. instances_at image w s ≡ C.instances_of image (sizes_of w) x) at refl
 
-    abbrev HasValue : ℕ → ℕ → ℕ → ℕ → Type 0
-    HasValue i k r n = i < instances_at image w n → r < rows_at w n → value_in image w n i k r ≡ constant image (sizes_of w) space i k r
+  abbrev HasValue : ℕ → ℕ → ℕ → ℕ → Type 0
+  HasValue i k r s = i < instances_at image w s → r < rows_at w s → value_in image w s i k r ≡ constant image (sizes_of w) space i k r
 
-    narrow : (k : ℕ) → k < count → k < width_at w s
-    narrow k h = omega arith
+  narrow : (k n : ℕ) → count ≤ n → k < count → k < n
+  narrow k n h l = omega arith
 
-    within : (k n : ℕ) → n ≡ count → k < count → k < n
-    within k n e h = omega arith
+  within : (k n : ℕ) → n ≡ count → k < count → k < n
+  within k n e h = omega arith
 
-    valued : (i k r : ℕ) → k < count → HasValue i k r s
-    valued i k r c a b =
-        value_is image w s i k r (record { space = below; instance = a; column = narrow k c; row = b })
-        ∙ subst (λ x. cell image w x i k r ≡ constant image (sizes_of w) space i k r) (sym at) (cell_constant image w space i k r (within k (constants_per space) per c))
+  valued : (s : ℕ) → namespace_at s ≡ space → s < 13 → constants_per space ≡ count → count ≤ width_at w s → (i k r : ℕ) → k < count → HasValue i k r s
+  valued s at below per wide i k r c a b =
+      value_is image w s i k r (record { space = below; instance = a; column = narrow k (width_at w s) wide c; row = b })
+      ∙ subst (λ x. cell image w x i k r ≡ constant image (sizes_of w) space i k r) (sym at) (cell_constant image w space i k r (within k (constants_per space) per c))
+
+  has_constants : (s : ℕ) → namespace_number space ≡ s → namespace_at s ≡ space → s < 13 → rows_at w s ≡ height → constants_per space ≡ count → count ≤ width_at w s
+      → HasConstants image (sizes_of w) (values_of image w) space height count
+  has_constants s number at below rows per wide = record {
+    instances = subst IsCount (sym number) (counted s at);
+    rows = subst (λ n. rows_at w n ≡ height) (sym number) rows;
+    values = λ i k r a b c. subst (HasValue i k r) (sym number) (valued s at below per wide i k r c) a b;
+  }
 
 pub machine_of : ImageLaws → (image : Img) (w : Witness) → IsLoadable image → AreWellFormed w → IsMachine image (sizes_of w) (values_of image w)
 unfolding namespace_number constants_per air_number
 machine_of laws image w loadable h =
     let n = counts w h in
     record {
-      bits = has_constants image w spaces.Bit 0 2 1 refl refl (omega arith) refl refl (omega arith);
-      words = has_constants image w spaces.Range16 1 65536 1 refl refl (omega arith) refl refl (omega arith);
-      pairs = has_constants image w spaces.BinTab 2 65536 3 refl refl (omega arith) refl refl (omega arith);
-      shifts = has_constants image w spaces.ShiftTab 3 512 11 refl refl (omega arith) refl refl (omega arith);
-      rom = has_constants image w spaces.Rom 4 1024 22 refl refl (omega arith) refl refl (omega arith);
-      init = has_constants image w spaces.Init 5 1024 4 refl refl (omega arith) refl refl (omega arith);
-      main = has_constants image w spaces.Main 6 (main_rows w.profile) 8 refl refl (omega arith) refl refl (omega arith);
-      mem = has_constants image w spaces.Mem 7 8192 5 refl refl (omega arith) refl refl (omega arith);
-      out = has_constants image w spaces.Out 8 64 2 refl refl (omega arith) refl refl (omega arith);
+      bits = has_constants image w spaces.Bit 2 1 0 refl refl (omega arith) refl refl (omega arith);
+      words = has_constants image w spaces.Range16 65536 1 1 refl refl (omega arith) refl refl (omega arith);
+      pairs = has_constants image w spaces.BinTab 65536 3 2 refl refl (omega arith) refl refl (omega arith);
+      shifts = has_constants image w spaces.ShiftTab 512 11 3 refl refl (omega arith) refl refl (omega arith);
+      rom = has_constants image w spaces.Rom 1024 22 4 refl refl (omega arith) refl refl (omega arith);
+      init = has_constants image w spaces.Init 1024 4 5 refl refl (omega arith) refl refl (omega arith);
+      main = has_constants image w spaces.Main (main_rows w.profile) 8 6 refl refl (omega arith) refl refl (omega arith);
+      mem = has_constants image w spaces.Mem 8192 5 7 refl refl (omega arith) refl refl (omega arith);
+      out = has_constants image w spaces.Out 64 2 8 refl refl (omega arith) refl refl (omega arith);
       some_main = n.some_main;
       few_main = n.main;
       few_mem = n.mem;

@@ -98,9 +98,9 @@ module _ (image : Img) (w : Witness) where
                 (
                   (λ a b. small_at (doubleword (slice_get (initial_doublewords image) (1024 * i + r))) k (init_small laws image loadable (1024 * i + r))),
                   (
-                    (λ a b. small_at _ k (main_small w.profile image.entry i (instances_of w.tables 0) r (laws.entry image loadable) a n.main (rows_of_main w.profile r b))),
+                    (λ a b. small_at (of_main image.entry i (instances_of w.tables 0) r (rows_in w.profile airs.Main)) k (main_small w.profile image.entry i (instances_of w.tables 0) r (laws.entry image loadable) a n.main (rows_of_main w.profile r b))),
                     (
-                      (λ a b. small_at _ k (mem_small i (instances_of w.tables 1) r (rows_in w.profile airs.Mem) a n.mem)),
+                      (λ a b. small_at (of_mem i (instances_of w.tables 1) r (rows_in w.profile airs.Mem)) k (mem_small i (instances_of w.tables 1) r (rows_in w.profile airs.Mem) a n.mem)),
                       (
                         (λ a b. small_at (of_out r) k (out_small r b)),
                         ((λ a b. small_at [] k tt), ((λ a b. small_at [] k tt), ((λ a b. small_at [] k tt), ((λ a b. small_at [] k tt), tt)))),
