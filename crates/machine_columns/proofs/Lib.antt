@@ -5,4 +5,5 @@ mod Counts
 mod Values
 mod Machine
 mod Found
+mod Tables
 mod Publics

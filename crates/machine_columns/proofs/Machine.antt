@@ -132,6 +132,10 @@ module _ (image : Img) (w : Witness) (space : Namespace) (height count : ℕ) wh
     values = λ i k r a b c. subst (HasValue i k r) (sym number) (valued s at below per wide i k r c) a b;
   }
 
+pub out_constants : (image : Img) (w : Witness) → HasConstants image (sizes_of w) (values_of image w) spaces.Out 64 2
+unfolding namespace_number constants_per
+out_constants image w = has_constants image w spaces.Out 64 2 8 refl refl (omega arith) refl refl (omega arith)
+
 pub machine_of : ImageLaws → (image : Img) (w : Witness) → IsLoadable image → AreWellFormed w → IsMachine image (sizes_of w) (values_of image w)
 unfolding namespace_number constants_per air_number
 machine_of laws image w loadable h =
@@ -145,7 +149,7 @@ machine_of laws image w loadable h =
       init = has_constants image w spaces.Init 1024 4 5 refl refl (omega arith) refl refl (omega arith);
       main = has_constants image w spaces.Main (main_rows w.profile) 8 6 refl refl (omega arith) refl refl (omega arith);
       mem = has_constants image w spaces.Mem 8192 5 7 refl refl (omega arith) refl refl (omega arith);
-      out = has_constants image w spaces.Out 64 2 8 refl refl (omega arith) refl refl (omega arith);
+      out = out_constants image w;
       some_main = n.some_main;
       few_main = n.main;
       few_mem = n.mem;

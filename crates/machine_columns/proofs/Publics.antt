@@ -8,15 +8,27 @@ use Rattle.rv_model.specs.declared.answer.Public.{Public}
 use Rattle.pil_ast.specs.Value.{public_value}
 use Rattle.air_main.specs.Step.{joined}
 use Rattle.machine_text.specs.Machine.{machine}
-use Rattle.main_run.specs.Headline.{Headline, told}
+use Rattle.air_mem.specs.Constants.{OutConstantsLaw}
+use Rattle.air_mem.specs.Laws.{OutPublics}
+use Rattle.zk_layout.specs.Air.{air_number}
+use Rattle.main_run.specs.Headline.{Headline, PublicsAreOuts, told}
 use Rattle.main_run.specs.Whole.{IsMachine, MachineLaw}
 use Rattle.machine_columns.specs.Values.{sizes_of, values_of}
 use Rattle.machine_columns.specs.Accepted.{AreAccepted, AreWellFormed, public_of, published}
+use Rattle.machine_columns.proofs.Counts.{counts}
+use Rattle.machine_columns.proofs.Machine.{out_constants}
 
 -- the law of the machine's columns, and the one of main_run
 pub record PublicLaws : Type 0 where
   pub columns : (image : Img) (w : Witness) → IsLoadable image → AreWellFormed w → IsMachine image (sizes_of w) (values_of image w)
   pub machine : MachineLaw
+
+pub one_out : (image : Img) (w : Witness) → AreWellFormed w → (values_of image w).instances 8 ≡ 1
+unfolding air_number
+one_out image w h = (counts w h).out
+
+pub publics_outs : OutConstantsLaw → OutPublics → (image : Img) (w : Witness) → AreWellFormed w → PublicsAreOuts (machine w.profile) (values_of image w)
+publics_outs constants outs image w h = outs w.profile (values_of image w) (constants image (sizes_of w) (values_of image w) (out_constants image w) (one_out image w h))
 
 headline : PublicLaws → (image : Img) (w : Witness) → IsLoadable image → AreWellFormed w → AreAccepted image w → Headline (machine w.profile) (values_of image w) image
 unfolding AreAccepted

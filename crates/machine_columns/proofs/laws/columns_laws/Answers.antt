@@ -1,4 +1,5 @@
 use Rattle.machine_columns.proofs.Machine.{fitting, machine_of}
+use Rattle.machine_columns.proofs.Tables.{table_value}
 use Rattle.machine_columns.proofs.laws.columns_laws.Goals as goal
 
 pub returns-clause-fits : goal.returns-clause-fits
@@ -14,3 +15,6 @@ returns-clause-machine c =
       rom = c.rom_law.ensures;
       initial = c.initial_law.ensures;
     })
+
+pub returns-clause-tables : goal.returns-clause-tables
+returns-clause-tables c = table_value (record { airs = c.airs_by_number.ensures; spaces = c.namespaces_by_number.ensures })
