@@ -159,6 +159,17 @@ class Base:
             with self.assertRaises(ValueError):
                 self.command("rows", table, *words, "--text", text)
 
+    def test_one_value_is_changed(self):
+        table, text = self.path("a", FORMAT_1), self.path("a.pil", TEXT)
+        self.command("set", table, "B", "1", "0", "z", "12", "--text", text)
+        self.command("set", table, "0", "0", "2", "3", "0x63")
+        wanted = [[[0, 0, 1], [5, 6, 7], [1, 1, P - 1], [2, 2, 99]], [[8, 9]], [[12, 11]]]
+        self.assertEqual(plain(zkwt.read(table)), wanted)
+        for words in (("B", "1", "2", "0", "1"), ("B", "1", "0", "1", "1"), ("B", "1", "0", "0", str(2**64))):
+            with self.assertRaises(ValueError):
+                self.command("set", table, *words)
+        self.assertEqual(plain(zkwt.read(table)), wanted)
+
     def test_a_file_is_made_of_csv(self):
         table, text = self.path("a", FORMAT_1), self.path("a.pil", TEXT)
         parts = []

@@ -5,6 +5,8 @@
         each instance: its air, number, columns and rows
     zkwt.py rows FILE AIR INSTANCE [FIRST LAST] [--text TEXT] [--columns NAME,NAME..]
         the rows FIRST to LAST of an instance, both included, or all, as CSV
+    zkwt.py set FILE AIR INSTANCE ROW COLUMN VALUE [--text TEXT]
+        changes one value in the file
     zkwt.py make FILE (--pil | --machine small|wide) [--text TEXT] [--airs N] AIR=CSV ..
         a table file of these instances; those of one air are numbered from 0 in the order given
 
@@ -47,11 +49,14 @@ class TableError(ValueError):
 
 @dataclass
 class Instance:
-    """A table: the number of its air, its own number within the air, and its columns, all of one length."""
+    """A table: the number of its air, its own number within the air, and its columns, all of one length.
+
+    Where it was read, `at` is the place of its first value in the file."""
 
     air: int
     number: int
     columns: list
+    at: int = None
 
     @property
     def rows(self):
@@ -169,7 +174,8 @@ def parse_instance(reader, airs, air, number, wanted):
     if wanted and not wanted(air, number):
         reader.skip(columns * rows)
         return Instance(air, number, [])
-    return Instance(air, number, cut(reader.values(columns * rows), columns, rows))
+    at = reader.at
+    return Instance(air, number, cut(reader.values(columns * rows), columns, rows), at)
 
 
 def read(path, wanted=None):
@@ -373,6 +379,20 @@ def print_rows(options):
     out.writerows(zip(range(first, end), *parts))
 
 
+def set_value(options):
+    it, air, known = instance_of(options)
+    if options.column not in known:
+        raise ValueError(f"{air} has no column {options.column}")
+    if not 0 <= options.row < it.rows:
+        raise ValueError(f"{air} has {it.rows} rows")
+    if not 0 <= options.value < 2**64:
+        raise ValueError("the value doesn't fit into 64 bits")
+    place = it.at + 8 * (known.index(options.column) * it.rows + options.row)
+    with open(options.file, "r+b") as file:
+        file.seek(place)
+        file.write(struct.pack("<Q", options.value))
+
+
 def csv_columns(path, known):
     """The columns of a CSV, in the order of the known names where there are some, and else in its own."""
     with open(path, newline="") as file:
@@ -407,16 +427,21 @@ def make_file(options):
 
 def options_of(words):
     """What the words ask for. A word that isn't understood ends the program with the usage."""
-    acts = {"list": list_instances, "rows": print_rows, "make": make_file}
+    acts = {"list": list_instances, "rows": print_rows, "set": set_value, "make": make_file}
     if not words or words[0] not in acts:
         sys.exit(__doc__)
     parser = argparse.ArgumentParser(prog=f"zkwt.py {words[0]}")
     parser.set_defaults(act=acts[words[0]])
     parser.add_argument("file", metavar="FILE")
     parser.add_argument("--text", help="a constraint text, or - for standard input")
-    if words[0] == "rows":
+    if words[0] in ("rows", "set"):
         parser.add_argument("air", metavar="AIR")
         parser.add_argument("instance", metavar="INSTANCE", type=int)
+    if words[0] == "set":
+        parser.add_argument("row", metavar="ROW", type=int)
+        parser.add_argument("column", metavar="COLUMN")
+        parser.add_argument("value", metavar="VALUE", type=lambda word: int(word, 0))
+    if words[0] == "rows":
         parser.add_argument("first", metavar="FIRST", type=int, nargs="?")
         parser.add_argument("last", metavar="LAST", type=int, nargs="?")
         parser.add_argument("--columns", help="the names of some columns, with commas between them")
