@@ -5,3 +5,5 @@ mod Held
 mod Airs
 mod Slots
 mod Main
+mod Mem
+mod Whole
