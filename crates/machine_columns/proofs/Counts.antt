@@ -1,16 +1,16 @@
 -- How many tables there are of each air, and their values.
-use Rattle.std.proofs.Common.{ℕ, Bool, true, false, zero, suc, ◌≡◌, ◌<◌, ◌≤◌, ◌^◌, List, [], ◌∷◌, ◌++◌, All, length, cond, Option, Some, None, refl, subst, arith}
+use Rattle.std.proofs.Common.{ℕ, Bool, true, false, zero, suc, ◌≡◌, ◌<◌, ◌≤◌, ◌^◌, List, [], ◌∷◌, All, cond, Some, refl, arith}
 use Rattle.std.specs.Prelude.{slice_index, slice_index_or}
 use Rattle.std.specs.Option.{option_map_or}
 use Rattle.std.specs.List.{find}
-use Rattle.std.proofs.lemmas.List.Elements.{All-nil, All-cons, All-get_or}
+use Rattle.std.proofs.lemmas.List.Elements.{All-nil, All-cons}
 use Rattle.gold.specs.Field.{p, AreCanonical, IsCanonical}
 use Rattle.gold.specs.declared.instances.Table.{Table}
 use Rattle.gold.specs.declared.instances.Witness.{Witness}
 use Rattle.gold.specs.declared.shapes.Form.TheVariants.{Two}
 use Rattle.gold.specs.declared.shapes.Profile.{Profile}
 use Rattle.gold.specs.declared.shapes.Profile.TheVariants.{Small, Wide}
-use Rattle.gold.specs.Shapes.{AreCounts, Fill, Place, HaveShape, counts_from, in_profile, places_from, airs_of, counts_of}
+use Rattle.gold.specs.Shapes.{AreCounts, Fill, Place, counts_from, in_profile, places_from, airs_of, counts_of}
 use Rattle.zk_layout.specs.Air.{machine_airs, machine_shape_of, most_per, shape_in}
 use Rattle.zk_layout.specs.declared.air.Air.TheVariants as airs
 use Rattle.wit_columns.specs.Values.{instances_of, is_instance, value_at, value_in}

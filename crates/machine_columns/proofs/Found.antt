@@ -1,6 +1,5 @@
 -- What is found at a place is its value.
-use Rattle.std.proofs.Common.{ℕ, ◌≡◌, ◌<◌, ◌≤◌, ◌+◌, ◌-◌, Option, Some, None, refl, sym, ap, subst, ◌∙◌, arith}
-use Rattle.gold.specs.declared.shapes.AirShape.{AirShape}
+use Rattle.std.proofs.Common.{ℕ, ◌≡◌, ◌<◌, ◌≤◌, ◌+◌, ◌-◌, Option, Some, None, sym, ap, subst, ◌∙◌, arith}
 use Rattle.gold.specs.declared.shapes.Shape.{Shape}
 use Rattle.gold.specs.Shapes.{airs_of, in_profile}
 use Rattle.gold.specs.declared.instances.Witness.{Witness}
@@ -9,12 +8,12 @@ use Rattle.zk_layout.specs.Air.{air_number, machine_airs}
 use Rattle.zk_layout.specs.Namespaces.{namespace_at}
 use Rattle.zk_layout.specs.declared.air.Air.{Air}
 use Rattle.zk_layout.specs.declared.namespace.Namespace.{Namespace}
-use Rattle.fixed_cols.specs.Constants.{Fixed, fixed_of, constant, constant_in, instances_in}
+use Rattle.fixed_cols.specs.Constants.{Fixed, constant, constant_in, instances_in}
 use Rattle.wit_columns.specs.Index.{Shaped}
 use Rattle.wit_columns.specs.Values.{instances_of, width_of, rows_of, value_at}
-use Rattle.machine_columns.specs.Values.{sizes_of, constants_per, instances_at, width_at, rows_at, value_in, held}
+use Rattle.machine_columns.specs.Values.{sizes_of, constants_per, instances_at, width_at, value_in}
 use Rattle.machine_columns.specs.Place.{Claim, AreColumnsOf, air_in}
-use Rattle.machine_columns.proofs.Values.{Inside, OfAir, value_is, cell_constant, cell_held, air_at, none_at}
+use Rattle.machine_columns.proofs.Values.{Inside, value_is, cell_constant, cell_held, air_at, none_at}
 
 abbrev claim_of : Img → Shaped → Claim
 claim_of image tables = record { image = image; witness = tables.witness }

@@ -1,5 +1,5 @@
 -- The columns are the machine's.
-use Rattle.std.proofs.Common.{ℕ, zero, suc, ◌≡◌, ◌<◌, ◌≤◌, ◌*◌, ◌^◌, length, refl, sym, subst, ◌∙◌, arith}
+use Rattle.std.proofs.Common.{ℕ, ◌≡◌, ◌<◌, ◌≤◌, ◌*◌, ◌^◌, length, refl, sym, subst, ◌∙◌, arith}
 use Rattle.gold.specs.declared.instances.Witness.{Witness}
 use Rattle.gold.specs.declared.shapes.Profile.{Profile}
 use Rattle.gold.specs.declared.shapes.Profile.TheVariants.{Small, Wide}
@@ -10,7 +10,6 @@ use Rattle.zk_layout.specs.Air.{air_number}
 use Rattle.zk_layout.specs.Namespaces.{namespace_at, namespace_number}
 use Rattle.zk_layout.specs.declared.namespace.Namespace.{Namespace}
 use Rattle.zk_layout.specs.declared.namespace.Namespace.TheVariants as spaces
-use Rattle.pil_ast.specs.Term.{space_at}
 use Rattle.pil_ast.specs.Columns.{Fits}
 use Rattle.fixed_cols.specs.Columns.{HasConstants}
 use Rattle.fixed_cols.specs.Constants.{constant}
@@ -20,7 +19,7 @@ use Rattle.main_run.specs.Whole.{IsMachine}
 use Rattle.machine_columns.specs.Values.{sizes_of, values_of, constants_per, cell, instances_at, width_at, rows_at, value_in}
 use Rattle.machine_columns.specs.Accepted.{AreWellFormed}
 use Rattle.machine_columns.proofs.Cases.{First, first_at}
-use Rattle.machine_columns.proofs.Counts.{Few, few, counts}
+use Rattle.machine_columns.proofs.Counts.{few, counts}
 use Rattle.machine_columns.proofs.Rows.{ImageLaws, few_rows, few_doublewords, few_instances}
 use Rattle.machine_columns.proofs.Values.{value_is, cell_constant, in_field}
 
@@ -65,8 +64,7 @@ single n h = record { instances = omega arith; in_all = omega arith }
 all_bounded : (image : Img) (w : Witness) → AreWellFormed w → First (IsBounded image w) 13
 unfolding air_number
 all_bounded image w h =
-    let n = few w h in
-    (
+    let n = few w h in (
       one_bounded 2 (omega arith),
       (
         one_bounded 65536 (omega arith),

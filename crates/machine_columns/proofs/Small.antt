@@ -1,6 +1,6 @@
 -- The constants that don't depend on the image are numbers of the field.
-use Rattle.std.proofs.Common.{ℕ, Bool, true, false, zero, suc, ◌≡◌, ◌<◌, ◌≤◌, ◌+◌, ◌-◌, ◌*◌, ◌/◌, ◌%◌, ◌^◌, List, [], ◌∷◌, cond, arith}
-use Rattle.std.specs.Prelude.{slice_index, bit_and, if◌then◌else◌, ◌==◌, nat_lt}
+use Rattle.std.proofs.Common.{ℕ, Bool, true, false, zero, suc, ◌<◌, ◌≤◌, ◌+◌, ◌-◌, ◌/◌, ◌%◌, ◌^◌, List, [], ◌∷◌, cond, arith}
+use Rattle.std.specs.Prelude.{slice_index, if◌then◌else◌, ◌==◌, nat_lt}
 use Rattle.std.proofs.lemmas.Nat.{and_le_l}
 use Rattle.std.proofs.Math.Pow.{pow_mono}
 use Rattle.gold.specs.Field.{p}
@@ -10,8 +10,7 @@ use Rattle.zk_layout.specs.Air.{rows_per, rows_in}
 use Rattle.zk_layout.specs.declared.air.Air.TheVariants as airs
 use Rattle.step_rows.specs.Words.{one_if}
 use Rattle.step_rows.specs.ShiftRow.{table_row, amount, factor}
-use Rattle.fixed_cols.specs.Constants.{byte_pair, shift_amount, of_main, of_mem, of_out, doubleword}
-use Rattle.step_rows.specs.declared.doubleword.Doubleword.{Doubleword}
+use Rattle.fixed_cols.specs.Constants.{byte_pair, shift_amount, of_main, of_mem, of_out}
 
 -- each number is below p
 abbrev pub AreSmall : List ℕ → Type 0

@@ -1,5 +1,5 @@
 -- Behind the constants stand the tables' columns.
-use Rattle.std.proofs.Common.{ℕ, ◌≡◌, ◌<◌, ◌≤◌, ◌+◌, ◌-◌, Option, Some, refl, sym, ap, subst, ◌∙◌, arith}
+use Rattle.std.proofs.Common.{ℕ, ◌≡◌, ◌<◌, ◌≤◌, ◌+◌, ◌-◌, Some, refl, sym, ap, subst, ◌∙◌, arith}
 use Rattle.std.specs.Prelude.{slice_get}
 use Rattle.std.specs.Option.{option_map_or}
 use Rattle.gold.specs.declared.instances.Witness.{Witness}
@@ -13,9 +13,9 @@ use Rattle.zk_layout.specs.declared.air.Air.{Air}
 use Rattle.zk_layout.specs.declared.air.Air.TheVariants as airs
 use Rattle.zk_layout.specs.declared.namespace.Namespace.{Namespace}
 use Rattle.wit_columns.specs.Values.{instances_of, width_of, rows_of, value_at}
-use Rattle.machine_columns.specs.Values.{constants_per, held, value_in, width_at}
+use Rattle.machine_columns.specs.Values.{constants_per, value_in, width_at}
 use Rattle.machine_columns.specs.Place.{air_in}
-use Rattle.machine_columns.proofs.Values.{OfAir, value_is, cell_held, air_at}
+use Rattle.machine_columns.proofs.Values.{value_is, cell_held, air_at}
 
 -- the laws of zk_layout
 pub record NumberLaws : Type 0 where

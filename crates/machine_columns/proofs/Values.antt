@@ -1,14 +1,13 @@
 -- Where the values of the columns stand, and that they are numbers of the field.
-use Rattle.std.proofs.Common.{ℕ, Bool, true, false, ◌&&◌, zero, suc, ◌≡◌, ◌<◌, ◌≤◌, ◌+◌, ◌-◌, ◌*◌, ◌^◌, List, [], ◌∷◌, length, Option, Some, None, unwrap_or, refl, sym, ap, subst, ◌∙◌, arith}
-use Rattle.std.specs.Prelude.{if◌then◌else◌, nat_lt, slice_get, slice_index}
+use Rattle.std.proofs.Common.{ℕ, Bool, true, false, ◌&&◌, ◌≡◌, ◌<◌, ◌≤◌, ◌+◌, ◌-◌, ◌*◌, [], ◌∷◌, Some, None, unwrap_or, refl, sym, ap, subst, ◌∙◌, arith}
+use Rattle.std.specs.Prelude.{if◌then◌else◌, nat_lt, slice_get}
 use Rattle.std.proofs.lemmas.Bool.{and_parts, ltb-true, lt-ltb, le-ltb}
 use Rattle.std.proofs.lemmas.Option.{none-some}
 use Rattle.gold.specs.Field.{p}
-use Rattle.gold.specs.declared.instances.Table.{Table}
 use Rattle.gold.specs.declared.instances.Witness.{Witness}
 use Rattle.gold.specs.declared.shapes.Profile.{Profile}
 use Rattle.gold.specs.declared.shapes.Profile.TheVariants.{Small, Wide}
-use Rattle.gold.specs.Shapes.{in_profile, counts_from}
+use Rattle.gold.specs.Shapes.{in_profile}
 use Rattle.rv_model.specs.Image.{Img, IsLoadable}
 use Rattle.step_rows.specs.Rom.{rom_rows}
 use Rattle.step_rows.specs.Initial.{initial_doublewords}
@@ -18,19 +17,16 @@ use Rattle.zk_layout.specs.declared.air.Air.{Air}
 use Rattle.zk_layout.specs.declared.air.Air.TheVariants as airs
 use Rattle.zk_layout.specs.declared.namespace.Namespace.{Namespace}
 use Rattle.zk_layout.specs.declared.namespace.Namespace.TheVariants as spaces
-use Rattle.pil_ast.specs.Term.{space_at, width}
 use Rattle.wit_columns.specs.Values.{value_at, width_of, rows_of, instances_of}
-use Rattle.machine_text.specs.Machine.{machine, main_rows}
-use Rattle.fixed_cols.specs.declared.sizes.Sizes.{Sizes}
-use Rattle.fixed_cols.specs.Constants.{constant, fixed_of, byte_pair, shift_amount, instruction, doubleword, of_main, of_mem, of_out}
-use Rattle.fixed_cols.specs.Constants as C
+use Rattle.machine_text.specs.Machine.{main_rows}
+use Rattle.fixed_cols.specs.Constants.{constant, byte_pair, shift_amount, instruction, doubleword, of_main, of_mem, of_out}
 use Rattle.machine_columns.specs.Values.{sizes_of, constants_per, held, cell, instances_at, width_at, rows_at, value_in}
 use Rattle.machine_columns.specs.Accepted.{AreWellFormed}
 use Rattle.machine_columns.specs.Place.{air_in}
 use Rattle.machine_columns.proofs.Cases.{First, first_at}
-use Rattle.machine_columns.proofs.Counts.{Few, few, canonical, value_small}
+use Rattle.machine_columns.proofs.Counts.{few, canonical, value_small}
 use Rattle.machine_columns.proofs.Rows.{ImageLaws, rom_small, init_small}
-use Rattle.machine_columns.proofs.Small.{AreSmall, small_at, pair_small, shift_small, main_small, mem_small, out_small}
+use Rattle.machine_columns.proofs.Small.{small_at, pair_small, shift_small, main_small, mem_small, out_small}
 
 -- ---- a value at a place that is there
 
@@ -84,8 +80,7 @@ module _ (image : Img) (w : Witness) where
   constants_small : ImageLaws → IsLoadable image → AreWellFormed w → (i k r : ℕ) → First (HasSmall i k r) 13
   unfolding constant air_number
   constants_small laws loadable h i k r =
-      let n = few w h in
-      (
+      let n = few w h in (
         (λ a b. small_at (r ∷ []) k (omega arith, tt)),
         (
           (λ a b. small_at (r ∷ []) k (omega arith, tt)),
@@ -185,8 +180,7 @@ all_airs : (image : Img) (w : Witness) → First (HasAir image w) 13
 unfolding constants_per held air_number air_in
 all_airs image w =
     let q = w.profile in
-    let l = like w.profile in
-    (
+    let l = like w.profile in (
       no_air image w 0 refl,
       (
         no_air image w 1 refl,
@@ -236,7 +230,10 @@ with_air s a e f = absurd (none-some a (sym f ∙ e))
 
 nothing_held : (w : Witness) → First (NothingHeld w) 13
 unfolding held air_in
-nothing_held w =
+nothing_held w = (
+  (λ e i k r. refl),
+  (
+    (λ e i k r. refl),
     (
       (λ e i k r. refl),
       (
@@ -246,25 +243,21 @@ nothing_held w =
           (
             (λ e i k r. refl),
             (
-              (λ e i k r. refl),
+              (λ e. with_air 6 airs.Main refl e),
               (
-                (λ e i k r. refl),
+                (λ e. with_air 7 airs.Mem refl e),
                 (
-                  (λ e. with_air 6 airs.Main refl e),
-                  (
-                    (λ e. with_air 7 airs.Mem refl e),
-                    (
-                      (λ e. with_air 8 airs.Out refl e),
-                      ((λ e. with_air 9 airs.Align refl e), ((λ e. with_air 10 airs.Binary refl e), ((λ e. with_air 11 airs.Shift refl e), ((λ e. with_air 12 airs.Arith refl e), tt)))),
-                    ),
-                  ),
+                  (λ e. with_air 8 airs.Out refl e),
+                  ((λ e. with_air 9 airs.Align refl e), ((λ e. with_air 10 airs.Binary refl e), ((λ e. with_air 11 airs.Shift refl e), ((λ e. with_air 12 airs.Arith refl e), tt)))),
                 ),
               ),
             ),
           ),
         ),
       ),
-    )
+    ),
+  ),
+)
 
 pub none_at : (w : Witness) (s : ℕ) → s < 13 → air_in (namespace_at s) ≡ None → (i k r : ℕ) → held w (namespace_at s) i k r ≡ 0
 none_at w s below = first_at (NothingHeld w) 13 (nothing_held w) s below

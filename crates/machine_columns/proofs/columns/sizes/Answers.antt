@@ -1,8 +1,6 @@
-use Rattle.std.proofs.Common.{ℕ, ◌≡◌, List, [], ◌∷◌, refl, ap, subst, ◌∙◌}
-use Rattle.gold.specs.declared.instances.Table.{Table}
+use Rattle.std.proofs.Common.{ℕ, ◌≡◌, [], ◌∷◌, refl, subst}
 use Rattle.gold.specs.declared.instances.Witness.{Witness}
 use Rattle.zk_layout.specs.Air.{air_number}
-use Rattle.fixed_cols.specs.declared.sizes.Sizes.{Sizes}
 use Rattle.wit_columns.specs.Index.{Shaped}
 use Rattle.wit_columns.specs.Values.{instances_of}
 use Rattle.machine_columns.specs.Values.{sizes_of}
