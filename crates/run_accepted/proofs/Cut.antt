@@ -17,20 +17,20 @@ use Rattle.wit_columns.specs.Values.{value_in}
 abbrev pub IsSmallRow : List ℕ → Type 0
 IsSmallRow row = (k : ℕ) → slice_index row k < p
 
-column_at : (rows : List (List ℕ)) (k r : ℕ) → get_or (map (λ row. slice_index row k) rows) r 0 ≡ slice_index (get_or rows r []) k
+column_at : (rows : List (List ℕ)) (k r : ℕ) → slice_index (map (λ row. slice_index row k) rows) r ≡ slice_index (get_or rows r []) k
 column_at [] k r = refl
 column_at (row ∷ rows) k zero = refl
 column_at (row ∷ rows) k (suc r) = column_at rows k r
 
-zeros_at : (n r : ℕ) → get_or (replicate n 0) r 0 ≡ 0
+zeros_at : (n r : ℕ) → slice_index (replicate n 0) r ≡ 0
 zeros_at zero r = refl
 zeros_at (suc n) zero = refl
 zeros_at (suc n) (suc r) = zeros_at n r
 
-padded_at : (n : ℕ) (xs : List ℕ) (r : ℕ) → get_or (padded n xs) r 0 ≡ get_or xs r 0
+padded_at : (n : ℕ) (xs : List ℕ) (r : ℕ) → slice_index (padded n xs) r ≡ slice_index xs r
 padded_at n xs r = behind (replicate (n - length xs) 0) (zeros_at (n - length xs)) xs r
   where
-    behind : (ys : List ℕ) → ((r : ℕ) → get_or ys r 0 ≡ 0) → (xs : List ℕ) (r : ℕ) → get_or (xs ++ ys) r 0 ≡ get_or xs r 0
+    behind : (ys : List ℕ) → ((r : ℕ) → slice_index ys r ≡ 0) → (xs : List ℕ) (r : ℕ) → slice_index (xs ++ ys) r ≡ slice_index xs r
     behind ys h [] r = h r
     behind ys h (x ∷ xs) zero = refl
     behind ys h (x ∷ xs) (suc r) = behind ys h xs r
@@ -38,7 +38,7 @@ padded_at n xs r = behind (replicate (n - length xs) 0) (zeros_at (n - length xs
 padded_length : (n : ℕ) (xs : List ℕ) → length xs ≤ n → length (padded n xs) ≡ n
 padded_length n xs h =
     let a = length-append xs (replicate (n - length xs) 0) in
-    let b = length-replicate (n - length xs) 0 in
+    let b = length-replicate {A = ℕ} (n - length xs) 0 in
     omega arith
 
 module _ (air : Air) (rows : List (List ℕ)) where

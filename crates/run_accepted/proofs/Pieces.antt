@@ -27,7 +27,7 @@ same_air a b e = sym (back a) ∙ ap (λ m. slice_index_or airs m Main) (eqb-tru
 
 abbrev pub is_among : Air → List Air → Bool
 is_among air [] = false
-is_among air (a ∷ as) = cond (eqb (air_number a) (air_number air)) true (is_among air as)
+is_among air (a ∷ xs) = cond (eqb (air_number a) (air_number air)) true (is_among air xs)
 
 pub all_among : (air : Air) → is_among air airs ≡ true
 unfolding air_number
@@ -50,7 +50,7 @@ module _ (T : Air → ℕ → Table) (named : AreNamed T) (count : Air → ℕ) 
   from a i m = map (T a) (range_with_len i m)
 
   abbrev pub all_of : List Air → List Table
-  all_of as = flat_map (λ a. from a 0 (count a)) as
+  all_of xs = flat_map (λ a. from a 0 (count a)) xs
 
   -- ---- finding one
   test_is : (s i : ℕ) (a : Air) (j : ℕ) → is_instance s i (T a j) ≡ (eqb (air_number a) s && eqb j i)
@@ -74,14 +74,14 @@ module _ (T : Air → ℕ → Table) (named : AreNamed T) (count : Air → ℕ) 
     | inr e ↦ stop i a j false (find (is_instance (air_number a) i) (from a (j + 1) m ++ ts)) (ne_eqb j i e) ∙ found i a (j + 1) m ts (omega arith) (omega arith)
   ]
 
-  find_one : (as : List Air) (air a : Air) (i : ℕ) (b : Bool) → eqb (air_number a) (air_number air) ≡ b → (b ≡ false → find (is_instance (air_number air) i) (all_of as) ≡ Some (T air i)) → i < count air
-      → find (is_instance (air_number air) i) (from a 0 (count a) ++ all_of as) ≡ Some (T air i)
-  find_one as air a i true e h l = subst (λ z. find (is_instance (air_number air) i) (from z 0 (count z) ++ all_of as) ≡ Some (T air i)) (sym (same_air a air e)) (found i air 0 (count air) (all_of as) (omega arith) (omega arith))
-  find_one as air a i false e h l = passed i air a e 0 (count a) (all_of as) ∙ h refl
+  find_one : (xs : List Air) (air a : Air) (i : ℕ) (b : Bool) → eqb (air_number a) (air_number air) ≡ b → (b ≡ false → find (is_instance (air_number air) i) (all_of xs) ≡ Some (T air i)) → i < count air
+      → find (is_instance (air_number air) i) (from a 0 (count a) ++ all_of xs) ≡ Some (T air i)
+  find_one xs air a i true e h l = subst (λ z. find (is_instance (air_number air) i) (from z 0 (count z) ++ all_of xs) ≡ Some (T air i)) (sym (same_air a air e)) (found i air 0 (count air) (all_of xs) (omega arith) (omega arith))
+  find_one xs air a i false e h l = passed i air a e 0 (count a) (all_of xs) ∙ h refl
 
-  pub find_in : (as : List Air) (air : Air) (i : ℕ) → is_among air as ≡ true → i < count air → find (is_instance (air_number air) i) (all_of as) ≡ Some (T air i)
+  pub find_in : (xs : List Air) (air : Air) (i : ℕ) → is_among air xs ≡ true → i < count air → find (is_instance (air_number air) i) (all_of xs) ≡ Some (T air i)
   find_in [] air i h l = absurd (false≢true h)
-  find_in (a ∷ as) air i h l = find_one as air a i (eqb (air_number a) (air_number air)) refl (λ e. find_in as air i (sym (ap (λ b. cond b true (is_among air as)) e) ∙ h) l) l
+  find_in (a ∷ xs) air i h l = find_one xs air a i (eqb (air_number a) (air_number air)) refl (λ e. find_in xs air i (sym (ap (λ b. cond b true (is_among air xs)) e) ∙ h) l) l
 
   -- ---- counting them
   counted_piece : (s : ℕ) (a : Air) (b : Bool) → eqb (air_number a) s ≡ b → (i m : ℕ) → count_by (λ t. eqb t.air s) (from a i m) ≡ cond b m 0
@@ -99,13 +99,13 @@ module _ (T : Air → ℕ → Table) (named : AreNamed T) (count : Air → ℕ) 
 
   abbrev number_in : List Air → ℕ → ℕ
   number_in [] s = 0
-  number_in (a ∷ as) s = cond (eqb (air_number a) s) (count a) 0 + number_in as s
+  number_in (a ∷ xs) s = cond (eqb (air_number a) s) (count a) 0 + number_in xs s
 
-  counted : (as : List Air) (s : ℕ) → count_by (λ t. eqb t.air s) (all_of as) ≡ number_in as s
+  counted : (xs : List Air) (s : ℕ) → count_by (λ t. eqb t.air s) (all_of xs) ≡ number_in xs s
   counted [] s = refl
-  counted (a ∷ as) s =
-      let u = sum_by-append (λ (t : Table). cond (eqb t.air s) 1 0) (from a 0 (count a)) (all_of as) in
-      u ∙ ap (λ n. n + count_by (λ t. eqb t.air s) (all_of as)) (counted_piece s a (eqb (air_number a) s) refl 0 (count a)) ∙ ap (λ n. cond (eqb (air_number a) s) (count a) 0 + n) (counted as s)
+  counted (a ∷ xs) s =
+      let u = sum_by-append (λ (t : Table). cond (eqb t.air s) 1 0) (from a 0 (count a)) (all_of xs) in
+      u ∙ ap (λ n. n + count_by (λ t. eqb t.air s) (all_of xs)) (counted_piece s a (eqb (air_number a) s) refl 0 (count a)) ∙ ap (λ n. cond (eqb (air_number a) s) (count a) 0 + n) (counted xs s)
 
   eqs : {a b c d e f g a' b' c' d' e' f' g' : ℕ} → a ≡ a' → b ≡ b' → c ≡ c' → d ≡ d' → e ≡ e' → f ≡ f' → g ≡ g' → a ∷ b ∷ c ∷ d ∷ e ∷ f ∷ g ∷ [] ≡ a' ∷ b' ∷ c' ∷ d' ∷ e' ∷ f' ∷ g' ∷ []
   eqs h i j k l m n = cc

@@ -27,7 +27,7 @@ pub record AreFew (count : Air → ℕ) : Type 0 where
 -- the airs from number a on
 abbrev Numbered : ℕ → List Air → Type 0
 Numbered a [] = Unit {0}
-Numbered a (x ∷ as) = (air_number x ≡ a) × Numbered (suc a) as
+Numbered a (x ∷ xs) = (air_number x ≡ a) × Numbered (suc a) xs
 
 numbered : Numbered 0 airs
 unfolding air_number
@@ -95,11 +95,11 @@ module _ (rows : Air → List (List ℕ)) (count : Air → ℕ) where
         one : (i : ℕ) → suc i ≡ i + 1
         one i = omega arith
 
-    fill_all : (as : List Air) (a : ℕ) → Numbered a as → Fill (places_from a (map air_shape as) (map count as)) (all_of cut are_named count as)
+    fill_all : (xs : List Air) (a : ℕ) → Numbered a xs → Fill (places_from a (map air_shape xs) (map count xs)) (all_of cut are_named count xs)
     fill_all [] a h = tt
-    fill_all (x ∷ as) a h =
-        fill_append (instances_from a (air_shape x) 0 (count x)) (map (cut x) (range_with_len 0 (count x))) (places_from (suc a) (map air_shape as) (map count as)) (all_of cut are_named count as)
-        (fill_piece x a 0 (count x) h.0 (omega arith)) (fill_all as (suc a) h.1)
+    fill_all (x ∷ xs) a h =
+        fill_append (instances_from a (air_shape x) 0 (count x)) (map (cut x) (range_with_len 0 (count x))) (places_from (suc a) (map air_shape xs) (map count xs)) (all_of cut are_named count xs)
+        (fill_piece x a 0 (count x) h.0 (omega arith)) (fill_all xs (suc a) h.1)
 
     bits32 : (air : Air) → count air < 2 ^ 32
     bits32 air = let b = bits_of air in let m = few.most air in omega arith
