@@ -1,3 +1,5 @@
+mod Below
 mod Pieces
 mod Cut
 mod Shape
+mod Run
