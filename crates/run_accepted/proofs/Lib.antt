@@ -3,3 +3,4 @@ mod Pieces
 mod Cut
 mod Shape
 mod Run
+mod Accept
