@@ -4,3 +4,4 @@ mod Cut
 mod Shape
 mod Run
 mod Accept
+mod Small
