@@ -5,3 +5,4 @@ mod Shape
 mod Run
 mod Accept
 mod Small
+mod SmallArith
