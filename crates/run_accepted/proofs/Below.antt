@@ -12,7 +12,6 @@ use Rattle.zk_layout.specs.Namespaces.{namespace_number, namespace_of}
 use Rattle.zk_layout.specs.declared.air.Air.{Air}
 use Rattle.min_trace.specs.Bounds.{IsRecord}
 use Rattle.min_trace.specs.Chunk.{IsStep}
-use Rattle.min_trace.specs.Laws.{Reads}
 use Rattle.min_trace.specs.Record.{instr_at, record_at}
 use Rattle.step_rows.specs.Rom.{rom_rows}
 use Rattle.image_rows.specs.Laws.{IsRom}
@@ -36,7 +35,6 @@ pub record ColumnsLaws : Type 0 where
 -- what steps of a run are
 pub record StepLaws : Type 0 where
   pub rows : RunHasRows
-  pub reads : (image : Img) (j : ℕ) → Reads (record_at image j) (state_at image j)
   pub here : (image : Img) (j : ℕ) → IsStep (step_at image j) → instr_of (fetch image (record_at image j).pc) ≡ Some (record_at image j).instr
   pub executes : (image : Img) (j : ℕ) → IsStep (step_at image j) → step_at image j ≡ executed (instr_at image j) (state_at image j)
   pub bounds : (image : Img) → IsLoadable image → (j : ℕ) → IsStep (step_at image j) → IsRecord (record_at image j)

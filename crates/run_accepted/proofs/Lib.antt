@@ -6,3 +6,4 @@ mod Run
 mod Accept
 mod Small
 mod SmallArith
+mod SmallRun

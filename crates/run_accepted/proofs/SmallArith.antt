@@ -9,7 +9,7 @@ use Rattle.step_rows.specs.Words.{digit, digits, flags}
 use Rattle.step_rows.specs.ArithRow.{is_in, is_high, is_quotient, is_remainder, is_division, sign_bit, first_sign, second_sign, used, size, first_size, second_size, x_of, r_of, c0, c1, c2, c3, c4, c5, c6, kn_of, n_of, zb_of, g_of, kg_of, result_sign, result_size, turned, z_of, k1_of, k2_of, unless_zero, carry_of, top_digit, row_of, numbered_row, arith_row}
 use Rattle.run_accepted.proofs.Small.{AreSmall, join, cond_small, flags_small, digits_small}
 
-cond_most : (t : Bool) (x y m : ℕ) → x ≤ m → y ≤ m → cond t x y ≤ m
+pub cond_most : (t : Bool) (x y m : ℕ) → x ≤ m → y ≤ m → cond t x y ≤ m
 cond_most true x y m h k = h
 cond_most false x y m h k = k
 

@@ -6,7 +6,7 @@ use image_rows::rom_law;
 use machine_columns::columns_laws;
 use main_run::machine_stands;
 use mem_rows::accesses_law;
-use min_trace::{bounds_law, execution_law, instruction_law, record_law};
+use min_trace::{bounds_law, execution_law, instruction_law};
 use run_lines::run_holds;
 
 /// The sequential tables of a run that halts within fewer than 2^32 steps are well-formed, and the machine's constraints hold of
@@ -20,7 +20,6 @@ pub fn completeness()
     main_rows();
     rom_law();
     accesses_law();
-    record_law();
     instruction_law();
     execution_law();
     bounds_law();

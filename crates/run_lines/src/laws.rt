@@ -4,7 +4,7 @@ ghost use Rattle.run_lines.specs.Laws.{RunHolds};
 use air_align::align_laws;
 use air_arith::arith_laws;
 use air_main::main_rows;
-use air_mem::{memory_bus, memory_rows, memory_text};
+use air_mem::{memory_bus, memory_rows};
 use air_ops::{binary_laws, shift_laws};
 use main_run::machine_stands;
 use mem_rows::accesses_law;
@@ -22,7 +22,6 @@ pub fn run_holds()
     align_laws();
     memory_rows();
     memory_bus();
-    memory_text();
     accesses_law();
     record_law();
     instruction_law();
