@@ -1,26 +1,24 @@
 -- The columns of the sequential tables have the rows of the run, so that they are accepted.
-use Rattle.std.proofs.Common.{ℕ, ◌+◌, ◌*◌, ◌<◌, ◌≤◌, ◌≡◌, ◌^◌, List, [], ◌∷◌, map, refl, sym, ap, ◌∙◌, subst, arith}
+use Rattle.std.proofs.Common.{ℕ, ◌+◌, ◌*◌, ◌<◌, ◌≤◌, ◌≡◌, ◌^◌, List, [], refl, sym, ap, ◌∙◌, subst, arith}
 use Rattle.std.specs.Prelude.{All, slice_index, slice_index_or}
-use Rattle.gold.specs.Shapes.{counts_from}
 use Rattle.gold.specs.declared.instances.Table.{Table}
 use Rattle.gold.specs.declared.instances.Witness.{Witness}
 use Rattle.gold.specs.declared.shapes.Profile.TheVariants.{Small}
 use Rattle.rv_model.specs.Image.{Img, IsLoadable}
 use Rattle.rv_model.specs.Run.{RunsTo}
 use Rattle.rv_model.specs.declared.answer.Public.{Public}
-use Rattle.zk_layout.specs.Air.{air_number, rows_per, columns_per, rows_in, airs}
+use Rattle.zk_layout.specs.Air.{air_number, rows_per, rows_in}
 use Rattle.zk_layout.specs.Namespaces.{namespace_number, namespace_of}
 use Rattle.zk_layout.specs.declared.air.Air.{Air}
 use Rattle.zk_layout.specs.declared.air.Air.TheVariants.{Main, Mem, Binary, Shift, Arith, Align, Out}
 use Rattle.pil_ast.specs.Columns.{Columns}
-use Rattle.wit_columns.specs.Values.{instances_of}
-use Rattle.run_tables.specs.Sequential.{sequential_tables, sequential_witness}
+use Rattle.run_tables.specs.Sequential.{sequential_witness}
 use Rattle.machine_columns.specs.Values.{constants_per, sizes_of, values_of}
 use Rattle.machine_columns.specs.Accepted.{AreAccepted, AreWellFormed}
 use Rattle.run_lines.specs.Rows.{count_of, space_of, constants_of, HasRows, AreRunOf}
 use Rattle.run_accepted.proofs.Below.{Laws}
 use Rattle.run_accepted.proofs.Cut.{IsSmallRow}
-use Rattle.run_accepted.proofs.Shape.{AreFew, tables, witness, value_is, how_many, counts, well_formed}
+use Rattle.run_accepted.proofs.Shape.{witness, value_is, how_many, counts, well_formed}
 use Rattle.run_accepted.proofs.Run.{rows, count, is_cut, are_few, room_for}
 
 -- ---- the numbers of an air's namespace
@@ -70,12 +68,12 @@ module _ (image : Img) (made : Air → List (List ℕ)) (number : Air → ℕ) w
   has_rows : (laws : Laws) (air : Air) → HasRows columns air (made air)
   has_rows laws air = record {
     each = λ i r k hi hr hk.
-      let li : i < number air = less i _ _ hi (instances_are air) in
-      let lr : r < rows_per air = less r _ _ hr (height_is air) in
-      ap (λ m. columns.at (space_of air) i (m + k) r) (sym (constants_are air))
-      ∙ laws.columns.tables image own air i k r (less i _ _ li (sym (how_many made number air))) hk lr
-      ∙ value_is made number air i k r li hk lr
-      ∙ ap (λ m. slice_index (slice_index_or (made air) (i * m + r) []) k) (sym (height_is air));
+        let li : i < number air = less i _ _ hi (instances_are air) in
+        let lr : r < rows_per air = less r _ _ hr (height_is air) in
+        ap (λ m. columns.at (space_of air) i (m + k) r) (sym (constants_are air))
+        ∙ laws.columns.tables image own air i k r (less i _ _ li (sym (how_many made number air))) hk lr
+        ∙ value_is made number air i k r li hk lr
+        ∙ ap (λ m. slice_index (slice_index_or (made air) (i * m + r) []) k) (sym (height_is air));
   }
 
 module _ (laws : Laws) (image : Img) (n : ℕ) (public : Public) (loadable : IsLoadable image) (few : n < 2 ^ 32) (run : RunsTo image n public) (small : (air : Air) → All IsSmallRow (rows image n public air)) where

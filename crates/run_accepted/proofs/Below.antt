@@ -1,7 +1,6 @@
 -- The laws of the crates below, as their functions' clauses give them.
-use Rattle.std.specs.Prelude.{◌≡◌, ◌+◌, ◌^◌, ◌<◌, ℕ, Some, IfSome}
+use Rattle.std.specs.Prelude.{◌≡◌, ◌+◌, ◌^◌, ◌<◌, ℕ, Some}
 use Rattle.gold.specs.declared.instances.Witness.{Witness}
-use Rattle.rv_word.specs.Ranges.{InRange}
 use Rattle.rv_model.specs.Code.{instr_of}
 use Rattle.rv_model.specs.Image.{Img, IsLoadable, fetch}
 use Rattle.rv_model.specs.Run.{state_at, step_at, RunsTo}
@@ -30,7 +29,7 @@ use Rattle.run_lines.specs.Laws.{RunHolds}
 pub record ColumnsLaws : Type 0 where
   pub machine : (image : Img) (tables : Witness) → IsLoadable image → AreWellFormed tables → IsMachine image (sizes_of tables) (values_of image tables)
   pub tables : (image : Img) (tables : Witness) (air : Air) (i k r : ℕ) → i < instances_of tables.tables (air_number air) → k < columns_per air → r < rows_in tables.profile air
-    → (values_of image tables).at (namespace_number (namespace_of air)) i (constants_per (namespace_of air) + k) r ≡ value_at tables.tables (air_number air) i k r
+      → (values_of image tables).at (namespace_number (namespace_of air)) i (constants_per (namespace_of air) + k) r ≡ value_at tables.tables (air_number air) i k r
 
 -- what steps of a run are
 pub record StepLaws : Type 0 where

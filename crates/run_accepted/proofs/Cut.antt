@@ -1,14 +1,12 @@
 -- The columns of a table: rows cut into instances and padded.
-use Rattle.std.proofs.Common.{ℕ, zero, suc, ◌+◌, ◌-◌, ◌*◌, ◌<◌, ◌≤◌, ◌≡◌, inl, inr, List, [], ◌∷◌, ◌++◌, length, get_or, map, take, drop, replicate, min, refl, sym, ap, ◌∙◌, subst, arith}
+use Rattle.std.proofs.Common.{ℕ, zero, suc, ◌+◌, ◌-◌, ◌*◌, ◌<◌, ◌≤◌, ◌≡◌, List, [], ◌∷◌, ◌++◌, length, get_or, map, drop, replicate, refl, sym, ap, ◌∙◌, subst, arith}
 use Rattle.std.specs.Prelude.{All, slice_index, slice_index_or}
 use Rattle.std.specs.List.{range_with_len}
-use Rattle.std.proofs.lemmas.Bool.{cases_lt}
-use Rattle.std.proofs.lemmas.List.{length-map, length-take, length-append, length-replicate, get_or-take, get_or-drop, get_or_past, get_or-append_right, get_or-replicate}
-use Rattle.std.proofs.lemmas.List.Elements.{All-nil, All-cons, All-append, All-map, All-take, All-drop, All-replicate, All-weaker, All-from_get_or}
+use Rattle.std.proofs.lemmas.List.{length-map, length-take, length-append, length-replicate, get_or-take, get_or-drop}
+use Rattle.std.proofs.lemmas.List.Elements.{All-append, All-map, All-take, All-drop, All-replicate, All-weaker}
 use Rattle.std.proofs.lemmas.List.FromFn.{length-map-range_with_len, get_or-map-range_with_len}
 use Rattle.gold.specs.Field.{p, IsCanonical, AreCanonical}
-use Rattle.gold.specs.declared.instances.Table.{Table}
-use Rattle.zk_layout.specs.Air.{air_number, rows_per, columns_per}
+use Rattle.zk_layout.specs.Air.{rows_per, columns_per}
 use Rattle.zk_layout.specs.declared.air.Air.{Air}
 use Rattle.run_rows.specs.Tables.{padded, by_columns, instance_of, table_of}
 use Rattle.wit_columns.specs.Values.{value_in}

@@ -1,29 +1,26 @@
 -- The sequential tables are cut out of the rows of the run, and are not too many.
-use Rattle.std.proofs.Common.{ℕ, zero, suc, ◌+◌, ◌-◌, ◌*◌, ◌/◌, ◌<◌, ◌≤◌, ◌≡◌, ◌^◌, Bool, true, false, cond, List, [], ◌∷◌, ◌++◌, Option, None, Some, length, map, flat_map, refl, sym, ap, ◌∙◌, subst, arith, append_assoc}
-use Rattle.std.specs.Prelude.{slice_index}
+use Rattle.std.proofs.Common.{ℕ, suc, ◌+◌, ◌*◌, ◌<◌, ◌≤◌, ◌≡◌, ◌^◌, Bool, true, false, cond, List, [], ◌∷◌, ◌++◌, Option, None, Some, length, map, refl, sym, ap, ◌∙◌, arith, append_assoc}
 use Rattle.std.specs.List.{filter_map, cons_option, range_with_len, filter}
 use Rattle.std.proofs.lemmas.List.{length-map, length-append}
 use Rattle.std.proofs.lemmas.List.FromFn.{length-range_with_len, length-map-range_with_len}
 use Rattle.std.proofs.lemmas.List.Sorted.{length_permutation}
 use Rattle.std.proofs.lemmas.List.Sums.{length-filter, count_by-le-length}
 use Rattle.gold.specs.declared.instances.Table.{Table}
-use Rattle.gold.specs.declared.shapes.Profile.TheVariants.{Small}
 use Rattle.rv_model.specs.Cpu.{is_store}
 use Rattle.rv_model.specs.Image.{Img, IsLoadable, initial_word}
 use Rattle.rv_model.specs.Run.{RunsTo}
 use Rattle.rv_model.specs.declared.answer.Public.{Public}
-use Rattle.zk_layout.specs.Air.{rows_per, most_per, rows_in, airs}
+use Rattle.zk_layout.specs.Air.{rows_per, most_per}
 use Rattle.zk_layout.specs.declared.air.Air.{Air}
 use Rattle.zk_layout.specs.declared.air.Air.TheVariants.{Main, Mem, Binary, Shift, Arith, Align, Out}
 use Rattle.min_trace.specs.Record.{record_at, records_between}
 use Rattle.min_trace.specs.declared.record.MemAct.{MemAct}
 use Rattle.min_trace.specs.declared.record.StepRecord.{StepRecord}
 use Rattle.planner.specs.Jobs.{instances}
-use Rattle.planner.specs.Rows.{has_row, with_row}
+use Rattle.planner.specs.Rows.{has_row}
 use Rattle.run_rows.specs.Tables.{records_of, rows_to}
 use Rattle.step_rows.specs.Initial.{doublewords, initial_doublewords, unless_zero}
 use Rattle.step_rows.specs.Rows.{row_in}
-use Rattle.mem_rows.specs.declared.access.Access.{Access}
 use Rattle.mem_rows.specs.Accesses.{stored, of_memory, of_register, of_step, of_steps, first_write, first_writes, output_reads, last_reads, accesses}
 use Rattle.mem_rows.specs.Order.{in_order}
 use Rattle.mem_rows.specs.Rows.{mem_tables, out_table}

@@ -1,13 +1,12 @@
 -- Tables that are cut out of rows have the machine's shape.
-use Rattle.std.proofs.Common.{ℕ, zero, suc, ◌+◌, ◌*◌, ◌<◌, ◌≤◌, ◌≡◌, ◌^◌, Bool, true, false, List, [], ◌∷◌, ◌++◌, length, map, flat_map, refl, sym, ap, ◌∙◌, subst, arith}
-use Rattle.std.specs.Prelude.{All, MatchBool, slice_index, slice_index_or}
+use Rattle.std.proofs.Common.{ℕ, zero, suc, ◌+◌, ◌*◌, ◌<◌, ◌≤◌, ◌≡◌, ◌^◌, true, List, [], ◌∷◌, ◌++◌, map, refl, sym, ap, ◌∙◌, subst, arith}
+use Rattle.std.specs.Prelude.{All, slice_index, slice_index_or}
 use Rattle.std.specs.List.{range_with_len}
 use Rattle.std.specs.Option.{option_map_or}
 use Rattle.std.proofs.lemmas.Bool.{false≢true}
-use Rattle.gold.specs.Shapes.{HaveShape, Fill, Fits, Place, Has32Bits, instances_from, places_from, counts_from, AreCounts, IsCount}
+use Rattle.gold.specs.Shapes.{HaveShape, Fill, Fits, Place, instances_from, places_from, counts_from, AreCounts}
 use Rattle.gold.specs.declared.instances.Table.{Table}
 use Rattle.gold.specs.declared.instances.Witness.{Witness}
-use Rattle.gold.specs.declared.shapes.AirShape.{AirShape}
 use Rattle.gold.specs.declared.shapes.Form.TheVariants.{Two}
 use Rattle.gold.specs.declared.shapes.Profile.TheVariants.{Small}
 use Rattle.zk_layout.specs.Air.{air_number, rows_per, columns_per, most_per, air_shape, airs, machine_airs, machine_shape_of}

@@ -1,6 +1,6 @@
 -- The rows of Binary, Shift and Align are numbers of the field.
-use Rattle.std.proofs.Common.{ℕ, zero, suc, ◌+◌, ◌-◌, ◌*◌, ◌/◌, ◌%◌, ◌^◌, ◌<◌, ◌≤◌, ◌≡◌, Bool, true, false, cond, eqb, ltb, List, [], ◌∷◌, ◌++◌, refl, sym, ap, ◌∙◌, subst, arith, sum}
-use Rattle.std.specs.Prelude.{slice_index, bit_and, nat_lt, ◌==◌}
+use Rattle.std.proofs.Common.{ℕ, zero, suc, ◌+◌, ◌-◌, ◌*◌, ◌/◌, ◌%◌, ◌^◌, ◌<◌, ◌≤◌, Bool, true, false, cond, eqb, List, [], ◌∷◌, ◌++◌, arith, sum}
+use Rattle.std.specs.Prelude.{nat_lt, ◌==◌}
 use Rattle.std.specs.Int.{byte_at, bytes_low_first, to_le_bytes, w64}
 use Rattle.std.proofs.Math.Nat.{mul-le-mul}
 use Rattle.std.proofs.Math.Pow.{pow_mono}
@@ -134,13 +134,37 @@ binary_rest o a b =
     ∷ Bin.tells o a b ∷ Bin.left_over o a b % 2 ^ 16 ∷ Bin.left_over o a b / 2 ^ 16 ∷ []
 
 rest_small : (o : OpNo) (a b : ℕ) → a < 2 ^ 64 → b < 2 ^ 64 → AreSmall (binary_rest o a b)
-rest_small o a b ha hb =
-    (cond_small (subtracts o) _ _ (one_small _) (cond_small (scales o) 0 _ (omega arith) (few_small _ (low_few 1 a b (omega arith)))),
-    (cond_small (subtracts o) _ _ (one_small _) (cond_small (scales o) 0 _ (omega arith) (few_small _ (high_few 1 a b (omega arith) ha hb))),
-    (cond_small (scales o) _ 0 (few_small _ (low_few (Bin.factor o) a b (factor_few o))) (omega arith),
-    (cond_small (scales o) _ 0 (few_small _ (high_few (Bin.factor o) a b (factor_few o) ha hb)) (omega arith),
-    (omega arith, (omega arith, (omega arith, (omega arith, (omega arith, (omega arith,
-    (tells_small o a b, (omega arith, (sixteenth _ (left_few o a b), tt)))))))))))))
+rest_small o a b ha hb = (
+  cond_small (subtracts o) _ _ (one_small _) (cond_small (scales o) 0 _ (omega arith) (few_small _ (low_few 1 a b (omega arith)))),
+  (
+    cond_small (subtracts o) _ _ (one_small _) (cond_small (scales o) 0 _ (omega arith) (few_small _ (high_few 1 a b (omega arith) ha hb))),
+    (
+      cond_small (scales o) _ 0 (few_small _ (low_few (Bin.factor o) a b (factor_few o))) (omega arith),
+      (
+        cond_small (scales o) _ 0 (few_small _ (high_few (Bin.factor o) a b (factor_few o) ha hb)) (omega arith),
+        (
+          omega arith,
+          (
+            omega arith,
+            (
+              omega arith,
+              (
+                omega arith,
+                (
+                  omega arith,
+                  (
+                    omega arith,
+                    (tells_small o a b, (omega arith, (sixteenth _ (left_few o a b), tt))),
+                  ),
+                ),
+              ),
+            ),
+          ),
+        ),
+      ),
+    ),
+  ),
+)
 
 pub binary_small : (o : OpNo) (a b : ℕ) → a < 2 ^ 64 → b < 2 ^ 64 → AreSmall (binary_row o a b)
 binary_small o a b ha hb =
@@ -203,12 +227,79 @@ shift_small o a b ha hb = numbered (op_number o - 11) (value_of o a b) (let l = 
     numbered : (n v : ℕ) → n ≤ 34 → AreSmall (Sh.numbered_row n a b v)
     numbered n v l =
         let t = times_few n b in
-        let s = top_few n a in
-        (omega arith, (omega arith, (omega arith, (omega arith, (omega arith, (omega arith, (omega arith, (omega arith, (omega arith, (omega arith,
-        (unflag_small _, (flag_small _, (unflag_small _, (flag_small _, (flag_small _, (flag_small _, (flag_small _,
-        (up_to_small _ t, (omega arith, (omega arith,
-        (product_small (a % 2 ^ 16) _ (omega arith) t, (product_small (a / 2 ^ 16 % 2 ^ 16) _ (omega arith) t, (product_small (Sh.upper n a (a / 2 ^ 32 % 2 ^ 16)) _ (upper_few n a _ (omega arith)) t, (product_small (Sh.upper n a (a / 2 ^ 48 % 2 ^ 16)) _ (upper_few n a _ (omega arith)) t,
-        (omega arith, (omega arith, (omega arith, (omega arith, (omega arith, (omega arith, tt))))))))))))))))))))))))))))))
+        let s = top_few n a in (
+          omega arith,
+          (
+            omega arith,
+            (
+              omega arith,
+              (
+                omega arith,
+                (
+                  omega arith,
+                  (
+                    omega arith,
+                    (
+                      omega arith,
+                      (
+                        omega arith,
+                        (
+                          omega arith,
+                          (
+                            omega arith,
+                            (
+                              unflag_small _,
+                              (
+                                flag_small _,
+                                (
+                                  unflag_small _,
+                                  (
+                                    flag_small _,
+                                    (
+                                      flag_small _,
+                                      (
+                                        flag_small _,
+                                        (
+                                          flag_small _,
+                                          (
+                                            up_to_small _ t,
+                                            (
+                                              omega arith,
+                                              (
+                                                omega arith,
+                                                (
+                                                  product_small (a % 2 ^ 16) _ (omega arith) t,
+                                                  (
+                                                    product_small (a / 2 ^ 16 % 2 ^ 16) _ (omega arith) t,
+                                                    (
+                                                      product_small (Sh.upper n a (a / 2 ^ 32 % 2 ^ 16)) _ (upper_few n a _ (omega arith)) t,
+                                                      (
+                                                        product_small (Sh.upper n a (a / 2 ^ 48 % 2 ^ 16)) _ (upper_few n a _ (omega arith)) t,
+                                                        (omega arith, (omega arith, (omega arith, (omega arith, (omega arith, (omega arith, tt)))))),
+                                                      ),
+                                                    ),
+                                                  ),
+                                                ),
+                                              ),
+                                            ),
+                                          ),
+                                        ),
+                                      ),
+                                    ),
+                                  ),
+                                ),
+                              ),
+                            ),
+                          ),
+                        ),
+                      ),
+                    ),
+                  ),
+                ),
+              ),
+            ),
+          ),
+        )
 
 -- ---- Align
 highest_few : (k : Kind) (off old : ℕ) → highest k off old < 256

@@ -1,5 +1,5 @@
 -- The rows of Arith are numbers of the field.
-use Rattle.std.proofs.Common.{ℕ, zero, suc, ◌+◌, ◌-◌, ◌*◌, ◌/◌, ◌%◌, ◌^◌, ◌<◌, ◌≤◌, ◌≡◌, Bool, true, false, cond, eqb, List, [], ◌∷◌, ◌++◌, arith}
+use Rattle.std.proofs.Common.{ℕ, zero, suc, ◌+◌, ◌-◌, ◌*◌, ◌/◌, ◌%◌, ◌^◌, ◌<◌, ◌≤◌, Bool, true, false, cond, List, [], ◌∷◌, ◌++◌, arith}
 use Rattle.std.specs.Prelude.{nat_lt, ◌==◌}
 use Rattle.std.proofs.Math.Nat.{mul-le-mul, div-le_self, mod-le}
 use Rattle.gold.specs.Field.{p}
@@ -7,7 +7,7 @@ use Rattle.rv_word.specs.declared.instr.OpNo.{OpNo}
 use Rattle.rv_word.specs.Numbers.{op_number}
 use Rattle.step_rows.specs.Words.{digit, digits, flags}
 use Rattle.step_rows.specs.ArithRow.{is_in, is_high, is_quotient, is_remainder, is_division, sign_bit, first_sign, second_sign, used, size, first_size, second_size, x_of, r_of, c0, c1, c2, c3, c4, c5, c6, kn_of, n_of, zb_of, g_of, kg_of, result_sign, result_size, turned, z_of, k1_of, k2_of, unless_zero, carry_of, top_digit, row_of, numbered_row, arith_row}
-use Rattle.run_accepted.proofs.Small.{AreSmall, join, cond_small, flags_small, digits_small}
+use Rattle.run_accepted.proofs.Small.{AreSmall, join, flags_small, digits_small}
 
 pub cond_most : (t : Bool) (x y m : ℕ) → x ≤ m → y ≤ m → cond t x y ≤ m
 cond_most true x y m h k = h
@@ -164,9 +164,28 @@ module _ (n a b : ℕ) (ha : a < 2 ^ 64) (hb : b < 2 ^ 64) (s t u v x r w z : �
       ∷ c0 x v r / 2 ^ 16 ∷ c1 x v r / 2 ^ 16 ∷ c2 x v r / 2 ^ 16 ∷ c3 x v r / 2 ^ 16 ∷ c4 x v r / 2 ^ 16 ∷ c5 x v r / 2 ^ 16 ∷ c6 x v r / 2 ^ 16 ∷ []
 
   carries_small : AreSmall carries
-  carries_small =
-      (low_part _, (low_part _, (low_part _, (low_part _, (low_part _, (low_part _, (low_part _,
-      (high_part _ (c0_most x v r), (high_part _ (c1_most x v r), (high_part _ (c2_most x v r), (high_part _ (c3_most x v r), (high_part _ (c4_most x v r), (high_part _ (c5_most x v r), (high_part _ (c6_most x v r), tt))))))))))))))
+  carries_small = (
+    low_part _,
+    (
+      low_part _,
+      (
+        low_part _,
+        (
+          low_part _,
+          (
+            low_part _,
+            (
+              low_part _,
+              (
+                low_part _,
+                (high_part _ (c0_most x v r), (high_part _ (c1_most x v r), (high_part _ (c2_most x v r), (high_part _ (c3_most x v r), (high_part _ (c4_most x v r), (high_part _ (c5_most x v r), (high_part _ (c6_most x v r), tt))))))),
+              ),
+            ),
+          ),
+        ),
+      ),
+    ),
+  )
 
   abbrev behind : List ℕ
   behind = carries ++ (bits ++ tests)

@@ -1,6 +1,6 @@
 -- The rows of a run are numbers of the field, in each air.
-use Rattle.std.proofs.Common.{ℕ, zero, suc, ◌+◌, ◌-◌, ◌*◌, ◌/◌, ◌%◌, ◌^◌, ◌<◌, ◌≤◌, ◌≡◌, ◌≢◌, ◌⊎◌, inl, inr, Bool, true, false, cond, eqb, List, [], ◌∷◌, ◌++◌, Option, Some, None, length, get_or, map, replicate, refl, sym, ap, ◌∙◌, subst, arith}
-use Rattle.std.specs.Prelude.{All, Contains, IfSome, slice_get, slice_index, ◌==◌, if◌then◌else◌}
+use Rattle.std.proofs.Common.{ℕ, zero, suc, ◌+◌, ◌-◌, ◌*◌, ◌/◌, ◌%◌, ◌^◌, ◌<◌, ◌≤◌, ◌≡◌, ◌≢◌, ◌⊎◌, inl, inr, Bool, true, false, eqb, List, [], ◌∷◌, ◌++◌, Option, Some, None, length, get_or, map, replicate, refl, sym, ap, ◌∙◌, subst, arith}
+use Rattle.std.specs.Prelude.{All, Contains, IfSome, slice_get, slice_index}
 use Rattle.std.specs.List.{range_with_len}
 use Rattle.std.proofs.lemmas.List.Elements.{All-nil, All-cons, All-head, All-tail, All-map, All-filter}
 use Rattle.std.proofs.lemmas.List.FromFn.{length-range_with_len, get_or-range_with_len}
@@ -41,15 +41,14 @@ use Rattle.mem_rows.specs.Rows.{final_values, gap, own, step_from, before, row, 
 use Rattle.mem_rows.specs.Sequence.{InReach}
 use Rattle.fixed_cols.specs.Constants.{instruction}
 use Rattle.air_main.specs.Constants.{RomConstants}
-use Rattle.air_main.specs.Rows.{HasRow}
 use Rattle.main_run.specs.Whole.{IsMachine}
 use Rattle.machine_columns.specs.Values.{sizes_of, values_of}
 use Rattle.machine_columns.specs.Accepted.{AreWellFormed}
 use Rattle.run_lines.specs.Rows.{rows_of}
 use Rattle.run_accepted.proofs.Below.{Laws}
 use Rattle.run_accepted.proofs.Cut.{IsSmallRow}
-use Rattle.run_accepted.proofs.Shape.{AreFew, witness, well_formed}
-use Rattle.run_accepted.proofs.Small.{AreSmall, small_row, join, cond_small, one_small, low_small, high_small, binary_small, shift_small, align_small}
+use Rattle.run_accepted.proofs.Shape.{witness, well_formed}
+use Rattle.run_accepted.proofs.Small.{AreSmall, small_row, join, one_small, low_small, high_small, binary_small, shift_small, align_small}
 use Rattle.run_accepted.proofs.SmallArith.{cond_most, arith_small}
 
 from_places : (xs : List ℕ) → ((k : ℕ) → k < length xs → slice_index xs k < p) → AreSmall xs

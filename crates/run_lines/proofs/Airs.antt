@@ -1,12 +1,11 @@
 -- Binary, Shift, Arith and Align: their lines, and what they send.
-use Rattle.std.proofs.Common.{ℕ, ◌+◌, ◌*◌, ◌%◌, ◌^◌, ◌<◌, ◌≡◌, ◌⊎◌, inl, inr, Bool, true, false, not, cond, eqb, List, [], ◌∷◌, Option, Some, None, flat_map, refl, sym, ap, ◌∙◌, subst, arith}
+use Rattle.std.proofs.Common.{ℕ, ◌+◌, ◌*◌, ◌%◌, ◌^◌, ◌<◌, ◌≡◌, inl, inr, true, false, not, cond, eqb, List, [], ◌∷◌, Option, Some, None, flat_map, refl, sym, ap, ◌∙◌, subst, arith}
 use Rattle.std.specs.Prelude.{All, slice_get, slice_index, slice_index_or, is_some, IfSome}
 use Rattle.std.specs.Option.{option_map_or}
 use Rattle.std.proofs.lemmas.Bool.{eqb-true, false≢true}
 use Rattle.std.proofs.lemmas.Option.{none-some, same_Some}
 use Rattle.std.proofs.lemmas.List.Elements.{All-filter, filter_passes}
-use Rattle.rv_word.specs.declared.instr.OpNo.{OpNo}
-use Rattle.rv_model.specs.Align.{width, aligned}
+use Rattle.rv_model.specs.Align.{width}
 use Rattle.rv_model.specs.Image.{Img}
 use Rattle.rv_model.specs.declared.answer.Public.{Public}
 use Rattle.zk_layout.specs.Air.{air_number, air_of, airs as all_airs}
@@ -66,7 +65,7 @@ module _ (ns : List Namespace) (c : Columns) (s width : ℕ) (row : StepRecord �
   sends t es one tuples =
       sent-laws ns c (λ x. t x ∷ []) rs (rows_with s (col s 0 false) es) are.room
       (λ i r x hi hr e. let h = at_place P rs all (i * c.rows s + r) x e in
-        ap (λ v. cond (not (eqb v 0)) (tuple ns c s i r es ∷ []) []) (held_at i r 0 hi hr some_columns (Some x) e ∙ one x h) ∙ ap (λ u. u ∷ []) (tuples i r x h (λ k hk. held_at i r k hi hr hk (Some x) e)))
+      ap (λ v. cond (not (eqb v 0)) (tuple ns c s i r es ∷ []) []) (held_at i r 0 hi hr some_columns (Some x) e ∙ one x h) ∙ ap (λ u. u ∷ []) (tuples i r x h (λ k hk. held_at i r k hi hr hk (Some x) e)))
       (λ i r hi hr e. ap (λ v. cond (not (eqb v 0)) (tuple ns c s i r es ∷ []) []) (held_at i r 0 hi hr some_columns None e))
 
 -- ---- the steps of the airs
@@ -144,7 +143,7 @@ module _ (airs_laws : AirLaws) (image : Img) (n : ℕ) (public : Public) (sizes 
   -- Binary
   pub binary_lines : (k : ℕ) → Holds ns c (item_at Binary.items k)
   binary_lines = airs_laws.binary_filled ns c stands.binary (each_row ns c 10 57 (row_in airs.Binary) (records_of airs.Binary image n) (binary_held image n public sizes c are) (omega arith) (IsIn n airs.Binary) (in_air airs.Binary) (λ i r. BinaryLaws.IsFilled c i r) (λ i r z. inl z)
-    (λ i r x h row. inr (x.op, first_of x, x.b, binary_of n x h, first_fits x h.known, h.known.bounds.b, row)))
+      (λ i r x h row. inr (x.op, first_of x, x.b, binary_of n x h, first_fits x h.known, h.known.bounds.b, row)))
 
   pub binary_sends : sent ns c Binary.operation ≡ flat_map (λ x. cond (has_row airs.Binary x) (one operation_of x) []) (records_between image 0 n)
   binary_sends =
@@ -155,7 +154,7 @@ module _ (airs_laws : AirLaws) (image : Img) (n : ℕ) (public : Public) (sizes 
   -- Shift
   pub shift_lines : (k : ℕ) → Holds ns c (item_at Shift.items k)
   shift_lines = airs_laws.shift_filled ns c stands.shift (each_row ns c 11 30 (row_in airs.Shift) (records_of airs.Shift image n) (shift_held image n public sizes c are) (omega arith) (IsIn n airs.Shift) (in_air airs.Shift) (λ i r. ShiftLaws.IsFilled c i r) (λ i r z. inl z)
-    (λ i r x h row. inr (x.op, first_of x, x.b, shift_of n x h, first_fits x h.known, h.known.bounds.b, row)))
+      (λ i r x h row. inr (x.op, first_of x, x.b, shift_of n x h, first_fits x h.known, h.known.bounds.b, row)))
 
   pub shift_sends : sent ns c Shift.operation ≡ flat_map (λ x. cond (has_row airs.Shift x) (one operation_of x) []) (records_between image 0 n)
   shift_sends =
@@ -166,7 +165,7 @@ module _ (airs_laws : AirLaws) (image : Img) (n : ℕ) (public : Public) (sizes 
   -- Arith
   pub arith_lines : (k : ℕ) → Holds ns c (item_at Arith.items k)
   arith_lines = airs_laws.arith_filled ns c stands.arith (each_row ns c 12 79 (row_in airs.Arith) (records_of airs.Arith image n) (arith_held image n public sizes c are) (omega arith) (IsIn n airs.Arith) (in_air airs.Arith) (λ i r. ArithLaws.IsFilled c i r) (λ i r z. inl z)
-    (λ i r x h row. inr (x.op, first_of x, x.b, arith_of n x h, first_fits x h.known, h.known.bounds.b, row)))
+      (λ i r x h row. inr (x.op, first_of x, x.b, arith_of n x h, first_fits x h.known, h.known.bounds.b, row)))
 
   pub arith_sends : sent ns c Arith.operation ≡ flat_map (λ x. cond (has_row airs.Arith x) (one operation_of x) []) (records_between image 0 n)
   arith_sends =
@@ -180,12 +179,12 @@ module _ (airs_laws : AirLaws) (image : Img) (n : ℕ) (public : Public) (sizes 
 
   pub align_lines : (k : ℕ) → Holds ns c (item_at Align.items k)
   align_lines = airs_laws.align_filled ns c stands.align (each_row ns c 9 38 (row_in airs.Align) (records_of airs.Align image n) (align_held image n public sizes c are) (omega arith) (IsIn n airs.Align) (in_air airs.Align) (λ i r. AlignLaws.IsFilled c i r) (λ i r z. inl z)
-    (λ i r x h row. let a = acts n x h in inr (a.act.kind, a.act.off, a.act.old, x.s, a.fits.off, a.even, a.fits.old, h.known.bounds.s, act_row i r x a.act a.is row)))
+      (λ i r x h row. let a = acts n x h in inr (a.act.kind, a.act.off, a.act.old, x.s, a.fits.off, a.even, a.fits.old, h.known.bounds.s, act_row i r x a.act a.is row)))
 
   pub align_sends : sent ns c Align.access ≡ flat_map (λ x. cond (has_row airs.Align x) (one access_of x) []) (records_between image 0 n)
   align_sends =
       sends ns c 9 38 (row_in airs.Align) (records_of airs.Align image n) (align_held image n public sizes c are) (omega arith) (IsIn n airs.Align) (in_air airs.Align) access_of Align.access.terms
       (λ x h. let a = acts n x h in ap (λ o. slice_index (access_row o x.s) 0) a.is)
       (λ i r x h row. let a = acts n x h in
-        (airs_laws.align ns c i r a.act.kind a.act.off a.act.old x.s stands.align a.fits.off a.even a.fits.old h.known.bounds.s (act_row i r x a.act a.is row)).1 ∙ sym (ap (λ o. option_map_or (λ (m : MemAct). access_tuple m.kind m.off m.old x.s) o []) a.is))
+      (airs_laws.align ns c i r a.act.kind a.act.off a.act.old x.s stands.align a.fits.off a.even a.fits.old h.known.bounds.s (act_row i r x a.act a.is row)).1 ∙ sym (ap (λ o. option_map_or (λ (m : MemAct). access_tuple m.kind m.off m.old x.s) o []) a.is))
       ∙ kept_pieces (has_row airs.Align) (one access_of) (records_between image 0 n)

@@ -1,5 +1,5 @@
 -- What is known of the steps of a run that halts.
-use Rattle.std.proofs.Common.{inl, inr, ℕ, suc, ◌+◌, ◌-◌, ◌*◌, ◌/◌, ◌%◌, ◌^◌, ◌<◌, ◌≤◌, ◌≡◌, Bool, true, false, cond, List, [], ◌∷◌, Option, Some, None, IfSome, map, length, get_or, refl, sym, ap, ◌∙◌, subst, arith}
+use Rattle.std.proofs.Common.{inl, inr, ℕ, ◌+◌, ◌-◌, ◌/◌, ◌%◌, ◌^◌, ◌<◌, ◌≤◌, ◌≡◌, Bool, true, false, List, Option, Some, None, IfSome, length, get_or, refl, sym, ap, ◌∙◌, subst, arith}
 use Rattle.std.specs.Prelude.{All, slice_index}
 use Rattle.std.specs.List.{range_with_len}
 use Rattle.std.proofs.lemmas.Bool.{cases_lt}
@@ -13,12 +13,12 @@ use Rattle.rv_model.specs.Align.{width, aligned}
 use Rattle.rv_model.specs.Cpu.{is_store}
 use Rattle.rv_model.specs.Image.{Img, IsLoadable}
 use Rattle.rv_model.specs.Run.{state_at, step_at, IsNext, RunsTo}
-use Rattle.rv_model.specs.State.{Answer, State, Next, Halt, Fault, operand}
+use Rattle.rv_model.specs.State.{Answer, Next, Halt, Fault, operand}
 use Rattle.rv_model.specs.declared.answer.Public.{Public}
-use Rattle.min_trace.specs.Bounds.{IsAct, IsRecord}
+use Rattle.min_trace.specs.Bounds.{IsRecord}
 use Rattle.min_trace.specs.Chunk.{IsStep}
-use Rattle.min_trace.specs.Laws.{Accesses, Reads, first_of, written_by}
-use Rattle.min_trace.specs.Operands.{rs1_of, rs2_of, uw_of}
+use Rattle.min_trace.specs.Laws.{Accesses, written_by}
+use Rattle.min_trace.specs.Operands.{rs1_of, rs2_of}
 use Rattle.min_trace.specs.Record.{record_at, records_between}
 use Rattle.min_trace.specs.declared.record.MemAct.{MemAct}
 use Rattle.min_trace.specs.declared.record.StepRecord.{StepRecord}

@@ -1,11 +1,10 @@
 -- What Main sends: the operations, the accesses and all that is read and written, of each step.
-use Rattle.std.proofs.Common.{ℕ, ◌+◌, ◌*◌, ◌^◌, ◌<◌, ◌≤◌, ◌≡◌, ◌⊎◌, inl, inr, Bool, true, false, cond, if◌then◌else◌, List, [], ◌∷◌, ◌++◌, Option, Some, None, map, flat_map, refl, sym, ap, ◌∙◌, subst, arith, append-nil}
-use Rattle.std.specs.Prelude.{All, slice_get, slice_index, ◌==◌, nat_le}
+use Rattle.std.proofs.Common.{ℕ, ◌+◌, ◌*◌, ◌^◌, ◌<◌, ◌≤◌, ◌≡◌, ◌⊎◌, inl, inr, Bool, true, false, cond, if◌then◌else◌, List, [], ◌∷◌, ◌++◌, Some, None, map, flat_map, refl, sym, ap, ◌∙◌, arith, append-nil}
+use Rattle.std.specs.Prelude.{All, slice_get, ◌==◌, nat_le}
 use Rattle.std.proofs.lemmas.Bool.{cases_lt}
 use Rattle.std.proofs.lemmas.List.Elements.{All-weaker}
 use Rattle.std.proofs.lemmas.Option.{none-some, same_Some}
-use Rattle.gold.specs.declared.shapes.Profile.{Profile}
-use Rattle.pil_ast.specs.Term.{Term, num, ◌⊕◌, ◌⊗◌, Tuples, Namespace, bus}
+use Rattle.pil_ast.specs.Term.{Term, num, ◌⊕◌, ◌⊗◌, Namespace, bus}
 use Rattle.pil_ast.specs.Columns.{Columns}
 use Rattle.pil_ast.specs.Value.{value_in}
 use Rattle.pil_ast.specs.Holds.{AsOften, Holds, sent, all_sent, row_sent, times}
@@ -37,7 +36,7 @@ use Rattle.main_run.specs.Stands.{AirsStand}
 use Rattle.run_lines.specs.Rows.{AreRunOf}
 use Rattle.run_lines.proofs.Below.{Laws}
 use Rattle.run_lines.proofs.Known.{IsKnown, IsStepOf, all_steps, known}
-use Rattle.run_lines.proofs.Lists.{value_there, value_past, map_pieces, regroup, EachSends, sends_all}
+use Rattle.run_lines.proofs.Lists.{value_there, value_past, map_pieces, regroup, sends_all}
 use Rattle.run_lines.proofs.Held.{main_held, main_of, main_room}
 use Rattle.run_lines.proofs.Airs.{operation_of, access_of, one, binary_sends, shift_sends, arith_sends, align_sends}
 use Rattle.run_lines.proofs.Slots.{limbed, tuples_of, first_read, second_read, memory_read, memory_write, register_write, in_slots, is_off, first_off, first_sent, second_sent, old_sent, new_sent, put_sent, operation_sent, access_sent}
@@ -118,31 +117,31 @@ module _ (laws : Laws) (image : Img) (n : ℕ) (public : Public) (sizes : Sizes)
 
   first_is : sent ns c (rows_with 6 Main.sel ((num 536870912 ⊕ Main.rs1) ∷ (num 8 ⊗ Main.STEP ⊕ num 1) ∷ num 0 ∷ Main.alo ∷ Main.ahi ∷ [])) ≡ flat_map first_read rs
   first_is = sent_of _ _ first_read (λ i r z. z)
-    (λ i r hi hr l. first_sent sizes.profile c i r n few (x i r hi hr) (here i r hi hr l) (sends_there i r hi hr l) (row_there i r hi hr l) (numbered i r hi hr))
+      (λ i r hi hr l. first_sent sizes.profile c i r n few (x i r hi hr) (here i r hi hr l) (sends_there i r hi hr l) (row_there i r hi hr l) (numbered i r hi hr))
 
   second_is : sent ns c (rows_with 6 Main.sel ((num 536870912 ⊕ Main.rs2) ∷ (num 8 ⊗ Main.STEP ⊕ num 2) ∷ num 0 ∷ Main.slo ∷ Main.shi ∷ [])) ≡ flat_map second_read rs
   second_is = sent_of _ _ second_read (λ i r z. z)
-    (λ i r hi hr l. second_sent sizes.profile c i r n few (x i r hi hr) (here i r hi hr l) (sends_there i r hi hr l) (row_there i r hi hr l) (numbered i r hi hr))
+      (λ i r hi hr l. second_sent sizes.profile c i r n few (x i r hi hr) (here i r hi hr l) (sends_there i r hi hr l) (row_there i r hi hr l) (numbered i r hi hr))
 
   old_is : sent ns c (rows_with 6 Main.ms (Main.w ∷ (num 8 ⊗ Main.STEP ⊕ num 3) ∷ num 0 ∷ Main.olo ∷ Main.ohi ∷ [])) ≡ flat_map memory_read rs
   old_is = sent_of _ _ memory_read (λ i r z. first_off _ _ z)
-    (λ i r hi hr l. old_sent sizes.profile c i r n few (x i r hi hr) (here i r hi hr l) (sends_there i r hi hr l) (row_there i r hi hr l) (numbered i r hi hr))
+      (λ i r hi hr l. old_sent sizes.profile c i r n few (x i r hi hr) (here i r hi hr l) (sends_there i r hi hr l) (row_there i r hi hr l) (numbered i r hi hr))
 
   new_is : sent ns c (rows_with 6 (Main.sel ⊗ Main.st) (Main.w ∷ (num 8 ⊗ Main.STEP ⊕ num 4) ∷ num 1 ∷ Main.mlo ∷ Main.mhi ∷ [])) ≡ flat_map memory_write rs
   new_is = sent_of _ _ memory_write (λ i r z. first_off _ _ z)
-    (λ i r hi hr l. new_sent sizes.profile c i r n few (x i r hi hr) (here i r hi hr l) (sends_there i r hi hr l) (row_there i r hi hr l) (numbered i r hi hr))
+      (λ i r hi hr l. new_sent sizes.profile c i r n few (x i r hi hr) (here i r hi hr l) (sends_there i r hi hr l) (row_there i r hi hr l) (numbered i r hi hr))
 
   put_is : sent ns c (rows_with 6 (Main.sel ⊗ Main.wr) ((num 536870912 ⊕ Main.rd) ∷ (num 8 ⊗ Main.STEP ⊕ num 5) ∷ num 1 ∷ Main.vlo ∷ Main.vhi ∷ [])) ≡ flat_map register_write rs
   put_is = sent_of _ _ register_write (λ i r z. first_off _ _ z)
-    (λ i r hi hr l. put_sent sizes.profile c i r n few (x i r hi hr) (here i r hi hr l) (sends_there i r hi hr l) (row_there i r hi hr l) (numbered i r hi hr))
+      (λ i r hi hr l. put_sent sizes.profile c i r n few (x i r hi hr) (here i r hi hr l) (sends_there i r hi hr l) (row_there i r hi hr l) (numbered i r hi hr))
 
   operation_is : sent ns c Main.operation ≡ flat_map (one operation_of) rs
   operation_is = sent_of _ _ (one operation_of) (λ i r z. z)
-    (λ i r hi hr l. operation_sent sizes.profile c i r n few (x i r hi hr) (here i r hi hr l) (sends_there i r hi hr l) (row_there i r hi hr l) (numbered i r hi hr))
+      (λ i r hi hr l. operation_sent sizes.profile c i r n few (x i r hi hr) (here i r hi hr l) (sends_there i r hi hr l) (row_there i r hi hr l) (numbered i r hi hr))
 
   access_is : sent ns c Main.access ≡ flat_map (λ x. cond (has_row airs.Align x) (one access_of x) []) rs
   access_is = sent_of _ _ (λ x. cond (has_row airs.Align x) (one access_of x) []) (λ i r z. first_off _ _ z)
-    (λ i r hi hr l. access_sent sizes.profile c i r n few (x i r hi hr) (here i r hi hr l) (sends_there i r hi hr l) (row_there i r hi hr l) (numbered i r hi hr))
+      (λ i r hi hr l. access_sent sizes.profile c i r n few (x i r hi hr) (here i r hi hr l) (sends_there i r hi hr l) (row_there i r hi hr l) (numbered i r hi hr))
 
   -- ---- the lines
   abbrev air_pieces : List (StepRecord → List (List ℕ))
@@ -153,7 +152,7 @@ module _ (laws : Laws) (image : Img) (n : ℕ) (public : Public) (sizes : Sizes)
       ap (times t) (sends_all ns c rs (Main.operation ∷ []) (one operation_of ∷ []) (operation_is, tt))
       ∙ regroup (IsKnown n) (one operation_of ∷ []) air_pieces (λ x h. in_one_air x (one operation_of x)) rs all_known t
       ∙ sym (ap (times t) (sends_all ns c rs (Binary.operation ∷ Shift.operation ∷ Arith.operation ∷ []) air_pieces
-        (binary_sends laws.airs image n public sizes c are stands all_known, (shift_sends laws.airs image n public sizes c are stands all_known, (arith_sends laws.airs image n public sizes c are stands all_known, tt)))))
+      (binary_sends laws.airs image n public sizes c are stands all_known, (shift_sends laws.airs image n public sizes c are stands all_known, (arith_sends laws.airs image n public sizes c are stands all_known, tt)))))
 
   pub access_line : Holds ns c (bus (Main.access ∷ []) (Align.access ∷ []))
   access_line t =

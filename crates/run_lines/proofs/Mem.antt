@@ -1,7 +1,7 @@
 -- Mem has the accesses of the run in order, and Out its final values.
-use Rattle.std.proofs.Common.{ℕ, zero, suc, ◌+◌, ◌-◌, ◌*◌, ◌/◌, ◌%◌, ◌^◌, ◌<◌, ◌≤◌, ◌≡◌, ◌⊎◌, inl, inr, Bool, true, false, cond, eqb, List, [], ◌∷◌, ◌++◌, Option, Some, None, length, get_or, map, replicate, refl, sym, ap, ◌∙◌, subst, arith, append_assoc}
-use Rattle.std.specs.Prelude.{All, AllPairs, Contains, slice_get, slice_index, slice_index_or, nat_lt}
-use Rattle.std.specs.List.{flat_map, range_with_len}
+use Rattle.std.proofs.Common.{ℕ, zero, suc, ◌+◌, ◌*◌, ◌^◌, ◌<◌, ◌≤◌, ◌≡◌, Bool, false, eqb, List, [], ◌∷◌, ◌++◌, Option, Some, None, length, get_or, map, replicate, refl, sym, ap, ◌∙◌, subst, arith, append_assoc}
+use Rattle.std.specs.Prelude.{All, AllPairs, Contains, slice_get, slice_index, slice_index_or}
+use Rattle.std.specs.List.{range_with_len}
 use Rattle.std.specs.List.Sorted.{IsPermutation}
 use Rattle.std.specs.Option.{option_map}
 use Rattle.std.proofs.lemmas.Bool.Decides.{nat_tests}
@@ -14,18 +14,16 @@ use Rattle.zk_layout.specs.declared.air.Air.TheVariants as airs
 use Rattle.rv_model.specs.Image.{Img, IsLoadable}
 use Rattle.rv_model.specs.Run.{RunsTo}
 use Rattle.rv_model.specs.declared.answer.Public.{Public}
-use Rattle.rv_model.specs.declared.machine.TheConstants.{OUTPUT_INDEX, OUTPUT_WORDS, EXIT_REGISTER}
-use Rattle.pil_ast.specs.Term.{bus, item_at, Namespace}
+use Rattle.rv_model.specs.declared.machine.TheConstants.{OUTPUT_INDEX, EXIT_REGISTER}
+use Rattle.pil_ast.specs.Term.{item_at}
 use Rattle.pil_ast.specs.Columns.{Columns}
 use Rattle.pil_ast.specs.Holds.{Holds}
 use Rattle.pil_laws.specs.Table.{held}
 use Rattle.fixed_cols.specs.declared.sizes.Sizes.{Sizes}
 use Rattle.machine_text.specs.Machine.{machine}
 use Rattle.machine_text.specs.Main
-use Rattle.machine_text.specs.Mem
 use Rattle.min_trace.specs.Record.{records_between}
 use Rattle.step_rows.specs.Initial.{initial_doublewords}
-use Rattle.step_rows.specs.declared.doubleword.Doubleword.{Doubleword}
 use Rattle.step_rows.specs.Words.{low, high}
 use Rattle.mem_rows.specs.declared.access.Access.{Access as Kept}
 use Rattle.mem_rows.specs.declared.access.TheConstants.{END}
@@ -33,7 +31,7 @@ use Rattle.mem_rows.specs.Accesses.{reads, register, of_steps, first_write, firs
 use Rattle.mem_rows.specs.Order.{in_order}
 use Rattle.mem_rows.specs.Rows.{row, rows_behind, final_values}
 use Rattle.mem_rows.specs.Sequence as Runs
-use Rattle.air_mem.specs.Access.{Access, InReach, ComesBefore, IsEarlierWrite, IsLastWrite, HasLast, written, never, IsReadLastWrite, IsSequence}
+use Rattle.air_mem.specs.Access.{Access, InReach, ComesBefore, IsEarlierWrite, HasLast, written, never, IsReadLastWrite, IsSequence}
 use Rattle.air_mem.specs.Lists.{initial_write, final_read, final_reads, all_accesses}
 use Rattle.air_mem.specs.Rows.{mem_row, IsMemOf}
 use Rattle.air_mem.specs.Constants as MemConstants
@@ -257,9 +255,9 @@ module _ (laws : Laws) (image : Img) (n : ℕ) (public : Public) (sizes : Sizes)
   moved =
       let firsts = map initial_write (initial_doublewords image) in
       let split : map limbed made ≡ (firsts ++ steps) ++ final_reads c
-        = map-append limbed (first_writes image ++ of_steps (records_between image 0 n)) (last_reads public)
-        ∙ ap (λ xs. xs ++ map limbed (last_reads public)) (map-append limbed (first_writes image) (of_steps (records_between image 0 n)) ∙ ap (λ xs. xs ++ steps) (sym firsts_are))
-        ∙ ap (λ xs. (firsts ++ steps) ++ xs) (sym (finals_are image n public sizes c are air.out.instances air.out.rows)) in
+      = map-append limbed (first_writes image ++ of_steps (records_between image 0 n)) (last_reads public)
+      ∙ ap (λ xs. xs ++ map limbed (last_reads public)) (map-append limbed (first_writes image) (of_steps (records_between image 0 n)) ∙ ap (λ xs. xs ++ steps) (sym firsts_are))
+      ∙ ap (λ xs. (firsts ++ steps) ++ xs) (sym (finals_are image n public sizes c are air.out.instances air.out.rows)) in
       let swapped : IsPermutation ((steps ++ firsts) ++ final_reads c) ((firsts ++ steps) ++ final_reads c) = IsPermutation-append_left (final_reads c) (steps ++ firsts) (firsts ++ steps) (IsPermutation-append_comm steps firsts) in
       IsPermutation-trans (steps ++ (firsts ++ final_reads c)) (map limbed made) kept
       (subst (λ z. IsPermutation z (map limbed made)) (append_assoc steps firsts (final_reads c)) (subst (λ z. IsPermutation ((steps ++ firsts) ++ final_reads c) z) (sym split) swapped))

@@ -1,14 +1,14 @@
 -- What the row of a step in Main sends to memory, slot by slot.
-use Rattle.std.proofs.Common.{ℕ, ◌+◌, ◌*◌, ◌/◌, ◌%◌, ◌^◌, ◌<◌, ◌≤◌, ◌≡◌, Bool, true, false, not, cond, eqb, List, [], ◌∷◌, ◌++◌, Option, Some, None, map, refl, sym, ap, ◌∙◌, subst, arith, append-nil}
+use Rattle.std.proofs.Common.{ℕ, ◌+◌, ◌*◌, ◌/◌, ◌%◌, ◌^◌, ◌<◌, ◌≡◌, Bool, true, false, not, cond, eqb, List, [], ◌∷◌, ◌++◌, Option, Some, None, map, refl, sym, ap, ◌∙◌, subst, arith, append-nil}
 use Rattle.std.specs.Prelude.{slice_index, is_some, IfSome, ◌==◌, if◌then◌else◌}
 use Rattle.std.specs.Option.{option_map_or}
 use Rattle.std.proofs.lemmas.Bool.Decides.{nat_tests}
 use Rattle.std.proofs.lemmas.Option.{none-some, same_Some}
 use Rattle.gold.specs.Field.{add_mod, mul_mod}
 use Rattle.gold.specs.declared.shapes.Profile.{Profile}
-use Rattle.pil_ast.specs.Term.{Term, num, col, ◌⊕◌, ◌⊗◌, Tuples, Namespace}
+use Rattle.pil_ast.specs.Term.{Term, num, ◌⊕◌, ◌⊗◌, Tuples, Namespace}
 use Rattle.pil_ast.specs.Columns.{Columns}
-use Rattle.pil_ast.specs.Holds.{row_sent, tuple}
+use Rattle.pil_ast.specs.Holds.{row_sent}
 use Rattle.pil_laws.proofs.Sent.{unsent, sent_one}
 use Rattle.machine_text.specs.Words.{rows_with}
 use Rattle.machine_text.specs.Machine.{machine}
@@ -18,8 +18,7 @@ use Rattle.rv_word.specs.declared.instr.Instr.{Instr}
 use Rattle.rv_word.specs.declared.instr.Instr.TheVariants.{Lui, Auipc, Jal, Jalr, Branch, Load, Store, OpImm, Op, Fence, Ecall, Ebreak}
 use Rattle.rv_model.specs.Align.{aligned}
 use Rattle.rv_model.specs.Cpu.{is_store}
-use Rattle.min_trace.specs.Bounds.{IsAct}
-use Rattle.min_trace.specs.Laws.{value_in, written_by}
+use Rattle.min_trace.specs.Laws.{value_in}
 use Rattle.min_trace.specs.Operands.{rs1_of, rs2_of, rd_of}
 use Rattle.min_trace.specs.declared.record.MemAct.{MemAct}
 use Rattle.min_trace.specs.declared.record.StepRecord.{StepRecord}
@@ -28,11 +27,10 @@ use Rattle.step_rows.specs.MainRow.{main_row}
 use Rattle.step_rows.specs.Rom.{rom_row, writes}
 use Rattle.step_rows.specs.Tuples.{access_tuple}
 use Rattle.step_rows.specs.Words.{low, high, one_if}
-use Rattle.step_rows.specs.declared.rom_row.RomRow.{RomRow}
 use Rattle.zk_layout.specs.declared.air.Air.TheVariants as airs
 use Rattle.mem_rows.specs.Accesses.{register, reads, time, stored, of_memory, of_register, of_step}
 use Rattle.mem_rows.specs.declared.access.Access.{Access as Kept}
-use Rattle.mem_rows.specs.declared.access.TheConstants.{REGISTERS, SLOTS, READS_RS1, READS_RS2, READS_MEMORY, WRITES_MEMORY, WRITES_RD}
+use Rattle.mem_rows.specs.declared.access.TheConstants.{REGISTERS, SLOTS, READS_RS1, READS_RS2, READS_MEMORY}
 use Rattle.air_main.specs.Law.{at_row}
 use Rattle.air_main.specs.Rows.{IsRow, Sends, SendsAccess}
 use Rattle.air_mem.specs.Access.{Access, memory_tuple}

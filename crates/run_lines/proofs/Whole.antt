@@ -1,7 +1,7 @@
 -- All lines of the machine's text hold of the rows of a run.
-use Rattle.std.proofs.Common.{ℕ, zero, suc, ◌^◌, ◌<◌, ◌≡◌, Bool, true, false, not, ◌&&◌, List, [], ◌∷◌, refl}
+use Rattle.std.proofs.Common.{ℕ, zero, suc, ◌^◌, ◌<◌, ◌≡◌, Bool, true, not, ◌&&◌, List, [], ◌∷◌, refl}
 use Rattle.std.proofs.lemmas.Bool.{and_parts, false≢true}
-use Rattle.pil_ast.specs.Term.{Line, identity, lookup, bus, Namespace, item_at, is_line, space_at}
+use Rattle.pil_ast.specs.Term.{Line, identity, lookup, bus, Namespace, is_line, space_at}
 use Rattle.pil_ast.specs.Columns.{Columns}
 use Rattle.pil_ast.specs.Holds.{AllHold, Holds}
 use Rattle.pil_laws.specs.Lines.{EachHolds}
@@ -65,10 +65,34 @@ module _ (laws : Laws) (image : Img) (n : ℕ) (public : Public) (sizes : Sizes)
   all_spaces : EachSpace ns c ns
   all_spaces =
       let air = stands laws image n public sizes c loadable few run are in
-      let known = all_known laws image n public sizes c loadable few run are in
-      (say_nothing ns c Bit.items refl, (say_nothing ns c Range16.items refl, (say_nothing ns c BinTab.items refl, (say_nothing ns c ShiftTab.items refl, (say_nothing ns c Rom.items refl, (say_nothing ns c Init.items refl,
-      (main_lines, (mem_lines laws image n public sizes c loadable few run are, (laws.mem.out ns c,
-      (align_lines laws.airs image n public sizes c are air known, (binary_lines laws.airs image n public sizes c are air known, (shift_lines laws.airs image n public sizes c are air known, (arith_lines laws.airs image n public sizes c are air known, tt)))))))))))))
+      let known = all_known laws image n public sizes c loadable few run are in (
+        say_nothing ns c Bit.items refl,
+        (
+          say_nothing ns c Range16.items refl,
+          (
+            say_nothing ns c BinTab.items refl,
+            (
+              say_nothing ns c ShiftTab.items refl,
+              (
+                say_nothing ns c Rom.items refl,
+                (
+                  say_nothing ns c Init.items refl,
+                  (
+                    main_lines,
+                    (
+                      mem_lines laws image n public sizes c loadable few run are,
+                      (
+                        laws.mem.out ns c,
+                        (align_lines laws.airs image n public sizes c are air known, (binary_lines laws.airs image n public sizes c are air known, (shift_lines laws.airs image n public sizes c are air known, (arith_lines laws.airs image n public sizes c are air known, tt)))),
+                      ),
+                    ),
+                  ),
+                ),
+              ),
+            ),
+          ),
+        ),
+      )
 
   all_lines : AllHold ns c
   all_lines = text_holds ns c (space_by ns c ns all_spaces)

@@ -3,7 +3,7 @@ use Rattle.std.specs.Prelude.{ℕ, ◌+◌, ◌*◌, ◌<◌, ◌≤◌, ◌≡�
 use Rattle.zk_layout.specs.Air.{columns_per, rows_in}
 use Rattle.zk_layout.specs.Namespaces.{namespace_number, namespace_of}
 use Rattle.zk_layout.specs.declared.air.Air.{Air}
-use Rattle.zk_layout.specs.declared.air.Air.TheVariants.{Main, Mem, Binary, Shift, Arith, Align, Out}
+use Rattle.zk_layout.specs.declared.air.Air.TheVariants.{Main, Mem, Out}
 use Rattle.rv_model.specs.Image.{Img}
 use Rattle.rv_model.specs.declared.answer.Public.{Public}
 use Rattle.pil_ast.specs.Columns.{Columns}
@@ -16,26 +16,17 @@ use Rattle.mem_rows.specs.Order.{in_order}
 use Rattle.mem_rows.specs.Rows.{rows_behind, final_values}
 use Rattle.main_run.specs.Whole.{IsMachine}
 
--- the rows that an air has of the image's run of n steps, in order; behind Mem's stands the first row of its padding, which knows
--- the last access
+-- the rows that an air has of the image's run of n steps, in order: those of its accesses, with the first row of padding behind
+-- them, which knows the last; its final values; and those of its steps
 unfoldable pub rows_of : Air → Img → ℕ → Public → List (List ℕ)
-rows_of Main image n public = rows_to Main (row_in Main) image n
 rows_of Mem image n public = rows_behind None (in_order (accesses image n public))
-rows_of Binary image n public = rows_to Binary (row_in Binary) image n
-rows_of Shift image n public = rows_to Shift (row_in Shift) image n
-rows_of Arith image n public = rows_to Arith (row_in Arith) image n
-rows_of Align image n public = rows_to Align (row_in Align) image n
 rows_of Out image n public = map (λ v. low v ∷ high v ∷ []) (final_values public)
+rows_of air image n public = rows_to air (row_in air) image n
 
 -- how many of them aren't padding
 unfoldable pub count_of : Air → Img → ℕ → Public → ℕ
-count_of Main image n public = length (rows_of Main image n public)
 count_of Mem image n public = length (in_order (accesses image n public))
-count_of Binary image n public = length (rows_of Binary image n public)
-count_of Shift image n public = length (rows_of Shift image n public)
-count_of Arith image n public = length (rows_of Arith image n public)
-count_of Align image n public = length (rows_of Align image n public)
-count_of Out image n public = length (rows_of Out image n public)
+count_of air image n public = length (rows_of air image n public)
 
 -- the number of the namespace of an air
 abbrev pub space_of : Air → ℕ
@@ -45,11 +36,8 @@ space_of air = namespace_number (namespace_of air)
 unfoldable pub constants_of : Air → ℕ
 constants_of Main = 8
 constants_of Mem = 5
-constants_of Binary = 0
-constants_of Shift = 0
-constants_of Arith = 0
-constants_of Align = 0
 constants_of Out = 2
+constants_of _ = 0
 
 -- the columns of the namespace of an air have these rows behind its constant columns: row number i * N + r at row r of instance
 -- i, where an instance has N rows, and zeros where there is none
