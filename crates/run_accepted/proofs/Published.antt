@@ -1,5 +1,5 @@
 -- The sequential tables publish what the run does: what accepted tables publish is the output of the image's one run.
-use Rattle.std.proofs.Common.{ℕ, ◌+◌, ◌-◌, ◌<◌, ◌≤◌, ◌≡◌, ◌^◌, inl, inr, sym, ap, ◌∙◌, subst, arith}
+use Rattle.std.proofs.Common.{ℕ, ◌+◌, ◌-◌, ◌<◌, ◌≡◌, inl, inr, sym, ap, ◌∙◌, subst, arith}
 use Rattle.std.proofs.lemmas.Bool.{cases_lt}
 use Rattle.gold.specs.declared.instances.Witness.{Witness}
 use Rattle.rv_model.specs.Image.{Img, IsLoadable}
@@ -8,7 +8,7 @@ use Rattle.rv_model.specs.declared.answer.Public.{Public}
 use Rattle.pil_ast.specs.Value.{public_value}
 use Rattle.machine_text.specs.Machine.{machine}
 use Rattle.main_run.specs.Headline.{Headline, told}
-use Rattle.main_run.specs.Whole.{IsMachine, MachineLaw}
+use Rattle.main_run.specs.Whole.{MachineLaw}
 use Rattle.machine_columns.specs.Values.{sizes_of, values_of}
 use Rattle.machine_columns.specs.Accepted.{AreAccepted, AreWellFormed, public_of}
 use Rattle.run_accepted.proofs.Below.{ColumnsLaws}

@@ -1,4 +1,3 @@
-use Rattle.rv_model.specs.Image.{Img, IsLoadable}
 use Rattle.run_tables.specs.Sequential.{sequential_witness}
 use Rattle.run_accepted.proofs.Below.{Laws}
 use Rattle.run_accepted.proofs.Accept.{accepted}
@@ -24,6 +23,6 @@ returns c =
     record {
       accepted = λ image n public loadable few run. accepted laws image n public loadable few run (rows_small laws image n public loadable few run);
       public = λ image n public loadable few run. (
-        let h = accepted laws image n public loadable few run (rows_small laws image n public loadable few run) in
-        published_by c.machine_laws.ensures.machine laws.columns image (sequential_witness image n public) n public loadable run h.0 h.1);
+          let h = accepted laws image n public loadable few run (rows_small laws image n public loadable few run) in
+          published_by c.machine_laws.ensures.machine laws.columns image (sequential_witness image n public) n public loadable run h.0 h.1);
     }
