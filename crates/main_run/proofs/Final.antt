@@ -1,11 +1,11 @@
 -- From the machine's constants and lines to the run, and that no identity wraps.
-use Rattle.std.proofs.Common.{ℕ, zero, suc, Bool, true, false, ◌&&◌, ◌≡◌, ◌≢◌, ◌<◌, ◌^◌, List, [], ◌∷◌, refl, arith}
+use Rattle.std.proofs.Common.{ℕ, zero, suc, Bool, true, false, ◌&&◌, ◌≡◌, ◌≢◌, ◌<◌, ◌≤◌, ◌*◌, ◌^◌, List, [], ◌∷◌, refl, arith}
 use Rattle.std.specs.Prelude.{slice_index}
 use Rattle.std.proofs.lemmas.Bool.{and_parts, false≢true}
 use Rattle.pil_ast.specs.Term.{Namespace, Tuples, Line, constant, commit, inter, published, identity, lookup, bus, item_at, space_at}
 use Rattle.pil_ast.specs.Columns.{Columns}
 use Rattle.pil_ast.specs.Value.{Cells, around}
-use Rattle.pil_ast.specs.Holds.{AllHold, all_sent, times}
+use Rattle.pil_ast.specs.Holds.{AllHold, all_sent, sent, times}
 use Rattle.pil_exact.specs.Exact.{HoldsExactly}
 use Rattle.pil_exact.specs.Tables.{SmallTables}
 use Rattle.pil_laws.specs.Sends.{Sends}
@@ -25,13 +25,14 @@ use Rattle.machine_text.specs.Shift
 use Rattle.machine_text.specs.Arith
 use Rattle.gold.specs.declared.shapes.Profile.{Profile}
 use Rattle.rv_model.specs.Image.{Img, IsLoadable}
-use Rattle.step_rows.specs.Tuples.{IsOperation}
+use Rattle.step_rows.specs.Tuples.{IsOperation, IsAccess}
 use Rattle.fixed_cols.specs.declared.sizes.Sizes.{Sizes}
 use Rattle.air_main.specs.Constants.{MainConstants}
 use Rattle.air_ops.specs.Binary.{HasBinary}
 use Rattle.air_ops.specs.Shift.{HasShift}
 use Rattle.air_arith.specs.Laws.{HasArith}
 use Rattle.air_align.specs.Laws.{HasAlign}
+use Rattle.main_run.specs.Headline.{Headline}
 use Rattle.main_run.specs.Whole.{IsMachine, MachineLaw, RowsLaw}
 use Rattle.main_run.specs.Bus.{accesses}
 use Rattle.main_run.specs.Exact.{NoWrapLaw}
