@@ -88,7 +88,7 @@ module _ (laws : Laws) (image : Img) (n : ℕ) (public : Public) (loadable : IsL
 
   run_of : AreRunOf image n public (sizes_of made) (values_of image made)
   run_of = record {
-    machine = laws.columns.machine image made loadable shaped;
+    machine = laws.columns.is_machine image made loadable shaped;
     heights = height_is image (rows image n public) (count image n public);
     room = λ air. room_in air _ _ (height_is image (rows image n public) (count image n public) air) (instances_are image (rows image n public) (count image n public) air);
     rows = has_rows image (rows image n public) (count image n public) laws;

@@ -19,17 +19,21 @@ use Rattle.mem_rows.specs.Order.{in_order}
 use Rattle.mem_rows.specs.Sequence.{IsSequenceOf}
 use Rattle.wit_columns.specs.Values.{instances_of, value_at}
 use Rattle.air_main.specs.Table.{RunHasRows}
+use Rattle.pil_ast.specs.Value.{public_value}
+use Rattle.machine_text.specs.Machine.{machine}
+use Rattle.main_run.specs.Headline.{told}
 use Rattle.main_run.specs.Stands.{StandsLaw}
 use Rattle.main_run.specs.Whole.{IsMachine}
 use Rattle.machine_columns.specs.Values.{constants_per, sizes_of, values_of}
-use Rattle.machine_columns.specs.Accepted.{AreWellFormed}
+use Rattle.machine_columns.specs.Accepted.{AreAccepted, AreWellFormed, public_of}
 use Rattle.run_lines.specs.Laws.{RunHolds}
 
 -- what columns of well-formed tables are
 pub record ColumnsLaws : Type 0 where
-  pub machine : (image : Img) (tables : Witness) → IsLoadable image → AreWellFormed tables → IsMachine image (sizes_of tables) (values_of image tables)
+  pub is_machine : (image : Img) (tables : Witness) → IsLoadable image → AreWellFormed tables → IsMachine image (sizes_of tables) (values_of image tables)
   pub tables : (image : Img) (tables : Witness) (air : Air) (i k r : ℕ) → i < instances_of tables.tables (air_number air) → k < columns_per air → r < rows_in tables.profile air
       → (values_of image tables).at (namespace_number (namespace_of air)) i (constants_per (namespace_of air) + k) r ≡ value_at tables.tables (air_number air) i k r
+  pub public : (image : Img) (tables : Witness) → IsLoadable image → AreWellFormed tables → AreAccepted image tables → public_of image tables ≡ told (public_value (machine tables.profile) (values_of image tables))
 
 -- what steps of a run are
 pub record StepLaws : Type 0 where

@@ -4,6 +4,7 @@ mod Cut
 mod Shape
 mod Run
 mod Accept
+mod Published
 mod Small
 mod SmallArith
 mod SmallRun

@@ -113,7 +113,7 @@ row_below m n e = omega arith
 
 module _ (laws : Laws) (image : Img) (loadable : IsLoadable image) where
   is_machine : IsMachine image (sizes_of bare) (values_of image bare)
-  is_machine = laws.columns.machine image bare loadable bare_shaped
+  is_machine = laws.columns.is_machine image bare loadable bare_shaped
 
   rom : RomConstants image (values_of image bare)
   rom = (laws.stands image (sizes_of bare) (values_of image bare) is_machine).main.rom

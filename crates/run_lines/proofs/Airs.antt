@@ -93,6 +93,10 @@ access_of x = option_map_or (λ (m : MemAct). access_tuple m.kind m.off m.old x.
 abbrev pub one : (StepRecord → List ℕ) → StepRecord → List (List ℕ)
 one t x = t x ∷ []
 
+-- where the step has a row of the air
+abbrev pub piece : Air → (StepRecord → List ℕ) → StepRecord → List (List ℕ)
+piece air t x = cond (has_row air x) (one t x) []
+
 -- a step that has a row of the air
 record IsIn (n : ℕ) (air : Air) (x : StepRecord) : Type 0 where
   known : IsKnown n x
@@ -145,7 +149,7 @@ module _ (airs_laws : AirLaws) (image : Img) (n : ℕ) (public : Public) (sizes 
   binary_lines = airs_laws.binary_filled ns c stands.binary (each_row ns c 10 57 (row_in airs.Binary) (records_of airs.Binary image n) (binary_held image n public sizes c are) (omega arith) (IsIn n airs.Binary) (in_air airs.Binary) (λ i r. BinaryLaws.IsFilled c i r) (λ i r z. inl z)
       (λ i r x h row. inr (x.op, first_of x, x.b, binary_of n x h, first_fits x h.known, h.known.bounds.b, row)))
 
-  pub binary_sends : sent ns c Binary.operation ≡ flat_map (λ x. cond (has_row airs.Binary x) (one operation_of x) []) (records_between image 0 n)
+  pub binary_sends : sent ns c Binary.operation ≡ flat_map (piece airs.Binary operation_of) (records_between image 0 n)
   binary_sends =
       sends ns c 10 57 (row_in airs.Binary) (records_of airs.Binary image n) (binary_held image n public sizes c are) (omega arith) (IsIn n airs.Binary) (in_air airs.Binary) operation_of Binary.operation.terms (λ x h. refl)
       (λ i r x h row. (airs_laws.binary ns c i r x.op (first_of x) x.b stands.binary (binary_of n x h) (first_fits x h.known) h.known.bounds.b row).1)
@@ -156,7 +160,7 @@ module _ (airs_laws : AirLaws) (image : Img) (n : ℕ) (public : Public) (sizes 
   shift_lines = airs_laws.shift_filled ns c stands.shift (each_row ns c 11 30 (row_in airs.Shift) (records_of airs.Shift image n) (shift_held image n public sizes c are) (omega arith) (IsIn n airs.Shift) (in_air airs.Shift) (λ i r. ShiftLaws.IsFilled c i r) (λ i r z. inl z)
       (λ i r x h row. inr (x.op, first_of x, x.b, shift_of n x h, first_fits x h.known, h.known.bounds.b, row)))
 
-  pub shift_sends : sent ns c Shift.operation ≡ flat_map (λ x. cond (has_row airs.Shift x) (one operation_of x) []) (records_between image 0 n)
+  pub shift_sends : sent ns c Shift.operation ≡ flat_map (piece airs.Shift operation_of) (records_between image 0 n)
   shift_sends =
       sends ns c 11 30 (row_in airs.Shift) (records_of airs.Shift image n) (shift_held image n public sizes c are) (omega arith) (IsIn n airs.Shift) (in_air airs.Shift) operation_of Shift.operation.terms (λ x h. refl)
       (λ i r x h row. (airs_laws.shift ns c i r x.op (first_of x) x.b stands.shift (shift_of n x h) (first_fits x h.known) h.known.bounds.b row).1)
@@ -167,7 +171,7 @@ module _ (airs_laws : AirLaws) (image : Img) (n : ℕ) (public : Public) (sizes 
   arith_lines = airs_laws.arith_filled ns c stands.arith (each_row ns c 12 79 (row_in airs.Arith) (records_of airs.Arith image n) (arith_held image n public sizes c are) (omega arith) (IsIn n airs.Arith) (in_air airs.Arith) (λ i r. ArithLaws.IsFilled c i r) (λ i r z. inl z)
       (λ i r x h row. inr (x.op, first_of x, x.b, arith_of n x h, first_fits x h.known, h.known.bounds.b, row)))
 
-  pub arith_sends : sent ns c Arith.operation ≡ flat_map (λ x. cond (has_row airs.Arith x) (one operation_of x) []) (records_between image 0 n)
+  pub arith_sends : sent ns c Arith.operation ≡ flat_map (piece airs.Arith operation_of) (records_between image 0 n)
   arith_sends =
       sends ns c 12 79 (row_in airs.Arith) (records_of airs.Arith image n) (arith_held image n public sizes c are) (omega arith) (IsIn n airs.Arith) (in_air airs.Arith) operation_of Arith.operation.terms (λ x h. refl)
       (λ i r x h row. (airs_laws.arith ns c i r x.op (first_of x) x.b stands.arith (arith_of n x h) (first_fits x h.known) h.known.bounds.b row).1)
@@ -181,7 +185,7 @@ module _ (airs_laws : AirLaws) (image : Img) (n : ℕ) (public : Public) (sizes 
   align_lines = airs_laws.align_filled ns c stands.align (each_row ns c 9 38 (row_in airs.Align) (records_of airs.Align image n) (align_held image n public sizes c are) (omega arith) (IsIn n airs.Align) (in_air airs.Align) (λ i r. AlignLaws.IsFilled c i r) (λ i r z. inl z)
       (λ i r x h row. let a = acts n x h in inr (a.act.kind, a.act.off, a.act.old, x.s, a.fits.off, a.even, a.fits.old, h.known.bounds.s, act_row i r x a.act a.is row)))
 
-  pub align_sends : sent ns c Align.access ≡ flat_map (λ x. cond (has_row airs.Align x) (one access_of x) []) (records_between image 0 n)
+  pub align_sends : sent ns c Align.access ≡ flat_map (piece airs.Align access_of) (records_between image 0 n)
   align_sends =
       sends ns c 9 38 (row_in airs.Align) (records_of airs.Align image n) (align_held image n public sizes c are) (omega arith) (IsIn n airs.Align) (in_air airs.Align) access_of Align.access.terms
       (λ x h. let a = acts n x h in ap (λ o. slice_index (access_row o x.s) 0) a.is)

@@ -4,7 +4,7 @@ use Rattle.std.specs.Prelude.{All, slice_get, ◌==◌, nat_le}
 use Rattle.std.proofs.lemmas.Bool.{cases_lt}
 use Rattle.std.proofs.lemmas.List.Elements.{All-weaker}
 use Rattle.std.proofs.lemmas.Option.{none-some, same_Some}
-use Rattle.pil_ast.specs.Term.{Term, num, ◌⊕◌, ◌⊗◌, Namespace, bus}
+use Rattle.pil_ast.specs.Term.{Term, Namespace, bus}
 use Rattle.pil_ast.specs.Columns.{Columns}
 use Rattle.pil_ast.specs.Value.{value_in}
 use Rattle.pil_ast.specs.Holds.{AsOften, Holds, sent, all_sent, row_sent, times}
@@ -29,8 +29,6 @@ use Rattle.min_trace.specs.declared.record.StepRecord.{StepRecord}
 use Rattle.planner.specs.Rows.{has_row}
 use Rattle.mem_rows.specs.Accesses.{of_step, of_steps}
 use Rattle.air_main.specs.Law.{Meets}
-use Rattle.step_rows.specs.MainRow.{main_row}
-use Rattle.air_main.specs.Rows.{IsRow, Sends}
 use Rattle.air_mem.specs.Access.{memory_tuple}
 use Rattle.main_run.specs.Stands.{AirsStand}
 use Rattle.run_lines.specs.Rows.{AreRunOf}
@@ -38,8 +36,8 @@ use Rattle.run_lines.proofs.Below.{Laws}
 use Rattle.run_lines.proofs.Known.{IsKnown, IsStepOf, all_steps, known}
 use Rattle.run_lines.proofs.Lists.{value_there, value_past, map_pieces, regroup, sends_all}
 use Rattle.run_lines.proofs.Held.{main_held, main_of, main_room}
-use Rattle.run_lines.proofs.Airs.{operation_of, access_of, one, binary_sends, shift_sends, arith_sends, align_sends}
-use Rattle.run_lines.proofs.Slots.{limbed, tuples_of, first_read, second_read, memory_read, memory_write, register_write, in_slots, is_off, first_off, first_sent, second_sent, old_sent, new_sent, put_sent, operation_sent, access_sent}
+use Rattle.run_lines.proofs.Airs.{operation_of, access_of, one, piece, binary_sends, shift_sends, arith_sends, align_sends}
+use Rattle.run_lines.proofs.Slots.{limbed, tuples_of, first_read, second_read, memory_read, memory_write, register_write, in_slots, is_off, first_off, first_list, second_list, old_list, new_list, put_list, HasStep, first_sent, second_sent, old_sent, new_sent, put_sent, operation_sent, access_sent}
 
 -- ---- each operation is one air's
 in_one : (p q s : Bool) (ts : List (List ℕ)) → ts ++ [] ≡ cond (air_number (if p then airs.Binary else if q then airs.Shift else if s then airs.Arith else airs.Binary) == air_number airs.Binary) ts []
@@ -86,15 +84,13 @@ module _ (laws : Laws) (image : Img) (n : ℕ) (public : Public) (sizes : Sizes)
     unfolding record_at
     numbered = stands.main_constants.is_step i r hi hr
 
-    module _ (l : place < n) where
-      here : IsKnown n x
-      here = known_of x (record { number = place; below = l; is = refl })
-
-      sends_there : Sends ns c i r x
-      sends_there = laws.main.sends ns c (main_rows sizes.profile) image n public stands.main stands.main_constants loadable run (main_room image n public sizes c are) (main_of image n public sizes c are) i r hi hr l
-
-      row_there : IsRow c i r (main_row x)
-      row_there = (main_of image n public sizes c are).row i r hi hr l
+    step_there : place < n → HasStep sizes.profile c i r n x
+    step_there l = record {
+      known = known_of x (record { number = place; below = l; is = refl });
+      sends = laws.main.sends ns c (main_rows sizes.profile) image n public stands.main stands.main_constants loadable run (main_room image n public sizes c are) (main_of image n public sizes c are) i r hi hr l;
+      row = (main_of image n public sizes c are).row i r hi hr l;
+      numbered = numbered;
+    }
 
     unselected : n ≤ place → c.at 6 i 8 r ≡ 0
     unselected l = (main_of image n public sizes c are).padding i r hi hr l 0 (omega arith)
@@ -115,37 +111,37 @@ module _ (laws : Laws) (image : Img) (n : ℕ) (public : Public) (sizes : Sizes)
       none i r hi hr z (inl l) = absurd (none-some _ (sym z ∙ value_there (record_at image) n (i * c.rows 6 + r) l))
       none i r hi hr z (inr l) = unsent ns c (rows_with 6 e es) i r (is_off _ (off i r (unselected i r hi hr l)))
 
-  first_is : sent ns c (rows_with 6 Main.sel ((num 536870912 ⊕ Main.rs1) ∷ (num 8 ⊗ Main.STEP ⊕ num 1) ∷ num 0 ∷ Main.alo ∷ Main.ahi ∷ [])) ≡ flat_map first_read rs
+  first_is : sent ns c first_list ≡ flat_map first_read rs
   first_is = sent_of _ _ first_read (λ i r z. z)
-      (λ i r hi hr l. first_sent sizes.profile c i r n few (x i r hi hr) (here i r hi hr l) (sends_there i r hi hr l) (row_there i r hi hr l) (numbered i r hi hr))
+      (λ i r hi hr l. first_sent sizes.profile c i r n few (x i r hi hr) (step_there i r hi hr l))
 
-  second_is : sent ns c (rows_with 6 Main.sel ((num 536870912 ⊕ Main.rs2) ∷ (num 8 ⊗ Main.STEP ⊕ num 2) ∷ num 0 ∷ Main.slo ∷ Main.shi ∷ [])) ≡ flat_map second_read rs
+  second_is : sent ns c second_list ≡ flat_map second_read rs
   second_is = sent_of _ _ second_read (λ i r z. z)
-      (λ i r hi hr l. second_sent sizes.profile c i r n few (x i r hi hr) (here i r hi hr l) (sends_there i r hi hr l) (row_there i r hi hr l) (numbered i r hi hr))
+      (λ i r hi hr l. second_sent sizes.profile c i r n few (x i r hi hr) (step_there i r hi hr l))
 
-  old_is : sent ns c (rows_with 6 Main.ms (Main.w ∷ (num 8 ⊗ Main.STEP ⊕ num 3) ∷ num 0 ∷ Main.olo ∷ Main.ohi ∷ [])) ≡ flat_map memory_read rs
+  old_is : sent ns c old_list ≡ flat_map memory_read rs
   old_is = sent_of _ _ memory_read (λ i r z. first_off _ _ z)
-      (λ i r hi hr l. old_sent sizes.profile c i r n few (x i r hi hr) (here i r hi hr l) (sends_there i r hi hr l) (row_there i r hi hr l) (numbered i r hi hr))
+      (λ i r hi hr l. old_sent sizes.profile c i r n few (x i r hi hr) (step_there i r hi hr l))
 
-  new_is : sent ns c (rows_with 6 (Main.sel ⊗ Main.st) (Main.w ∷ (num 8 ⊗ Main.STEP ⊕ num 4) ∷ num 1 ∷ Main.mlo ∷ Main.mhi ∷ [])) ≡ flat_map memory_write rs
+  new_is : sent ns c new_list ≡ flat_map memory_write rs
   new_is = sent_of _ _ memory_write (λ i r z. first_off _ _ z)
-      (λ i r hi hr l. new_sent sizes.profile c i r n few (x i r hi hr) (here i r hi hr l) (sends_there i r hi hr l) (row_there i r hi hr l) (numbered i r hi hr))
+      (λ i r hi hr l. new_sent sizes.profile c i r n few (x i r hi hr) (step_there i r hi hr l))
 
-  put_is : sent ns c (rows_with 6 (Main.sel ⊗ Main.wr) ((num 536870912 ⊕ Main.rd) ∷ (num 8 ⊗ Main.STEP ⊕ num 5) ∷ num 1 ∷ Main.vlo ∷ Main.vhi ∷ [])) ≡ flat_map register_write rs
+  put_is : sent ns c put_list ≡ flat_map register_write rs
   put_is = sent_of _ _ register_write (λ i r z. first_off _ _ z)
-      (λ i r hi hr l. put_sent sizes.profile c i r n few (x i r hi hr) (here i r hi hr l) (sends_there i r hi hr l) (row_there i r hi hr l) (numbered i r hi hr))
+      (λ i r hi hr l. put_sent sizes.profile c i r n few (x i r hi hr) (step_there i r hi hr l))
 
   operation_is : sent ns c Main.operation ≡ flat_map (one operation_of) rs
   operation_is = sent_of _ _ (one operation_of) (λ i r z. z)
-      (λ i r hi hr l. operation_sent sizes.profile c i r n few (x i r hi hr) (here i r hi hr l) (sends_there i r hi hr l) (row_there i r hi hr l) (numbered i r hi hr))
+      (λ i r hi hr l. operation_sent sizes.profile c i r n few (x i r hi hr) (step_there i r hi hr l))
 
-  access_is : sent ns c Main.access ≡ flat_map (λ x. cond (has_row airs.Align x) (one access_of x) []) rs
-  access_is = sent_of _ _ (λ x. cond (has_row airs.Align x) (one access_of x) []) (λ i r z. first_off _ _ z)
-      (λ i r hi hr l. access_sent sizes.profile c i r n few (x i r hi hr) (here i r hi hr l) (sends_there i r hi hr l) (row_there i r hi hr l) (numbered i r hi hr))
+  access_is : sent ns c Main.access ≡ flat_map (piece airs.Align access_of) rs
+  access_is = sent_of _ _ (piece airs.Align access_of) (λ i r z. first_off _ _ z)
+      (λ i r hi hr l. access_sent sizes.profile c i r n few (x i r hi hr) (step_there i r hi hr l))
 
   -- ---- the lines
   abbrev air_pieces : List (StepRecord → List (List ℕ))
-  air_pieces = (λ x. cond (has_row airs.Binary x) (one operation_of x) []) ∷ (λ x. cond (has_row airs.Shift x) (one operation_of x) []) ∷ (λ x. cond (has_row airs.Arith x) (one operation_of x) []) ∷ []
+  air_pieces = piece airs.Binary operation_of ∷ piece airs.Shift operation_of ∷ piece airs.Arith operation_of ∷ []
 
   pub operations_line : Holds ns c (bus (Main.operation ∷ []) (Binary.operation ∷ Shift.operation ∷ Arith.operation ∷ []))
   operations_line t =
@@ -156,8 +152,8 @@ module _ (laws : Laws) (image : Img) (n : ℕ) (public : Public) (sizes : Sizes)
 
   pub access_line : Holds ns c (bus (Main.access ∷ []) (Align.access ∷ []))
   access_line t =
-      ap (times t) (sends_all ns c rs (Main.access ∷ []) ((λ x. cond (has_row airs.Align x) (one access_of x) []) ∷ []) (access_is, tt)
-      ∙ sym (sends_all ns c rs (Align.access ∷ []) ((λ x. cond (has_row airs.Align x) (one access_of x) []) ∷ []) (align_sends laws.airs image n public sizes c are stands all_known, tt)))
+      ap (times t) (sends_all ns c rs (Main.access ∷ []) (piece airs.Align access_of ∷ []) (access_is, tt)
+      ∙ sym (sends_all ns c rs (Align.access ∷ []) (piece airs.Align access_of ∷ []) (align_sends laws.airs image n public sizes c are stands all_known, tt)))
 
   abbrev slots : List (StepRecord → List (List ℕ))
   slots = first_read ∷ second_read ∷ memory_read ∷ memory_write ∷ register_write ∷ []

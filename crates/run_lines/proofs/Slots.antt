@@ -6,7 +6,7 @@ use Rattle.std.proofs.lemmas.Bool.Decides.{nat_tests}
 use Rattle.std.proofs.lemmas.Option.{none-some, same_Some}
 use Rattle.gold.specs.Field.{add_mod, mul_mod}
 use Rattle.gold.specs.declared.shapes.Profile.{Profile}
-use Rattle.pil_ast.specs.Term.{Term, num, ◌⊕◌, ◌⊗◌, Tuples, Namespace}
+use Rattle.pil_ast.specs.Term.{num, ◌⊕◌, ◌⊗◌, Tuples, Namespace}
 use Rattle.pil_ast.specs.Columns.{Columns}
 use Rattle.pil_ast.specs.Holds.{row_sent}
 use Rattle.pil_laws.proofs.Sent.{unsent, sent_one}
@@ -31,11 +31,10 @@ use Rattle.zk_layout.specs.declared.air.Air.TheVariants as airs
 use Rattle.mem_rows.specs.Accesses.{register, reads, time, stored, of_memory, of_register, of_step}
 use Rattle.mem_rows.specs.declared.access.Access.{Access as Kept}
 use Rattle.mem_rows.specs.declared.access.TheConstants.{REGISTERS, SLOTS, READS_RS1, READS_RS2, READS_MEMORY}
-use Rattle.air_main.specs.Law.{at_row}
 use Rattle.air_main.specs.Rows.{IsRow, Sends, SendsAccess}
 use Rattle.air_mem.specs.Access.{Access, memory_tuple}
 use Rattle.run_lines.proofs.Known.{IsKnown, Moves, none, some}
-use Rattle.run_lines.proofs.Airs.{operation_of, access_of, one}
+use Rattle.run_lines.proofs.Airs.{operation_of, access_of, one, piece}
 
 -- an access by the limbs of its value
 abbrev pub limbed : Kept → Access
@@ -120,50 +119,63 @@ first_off a b h = ap (λ z. mul_mod z b) h ∙ none b
 five : (a b d e f a' b' d' e' f' : ℕ) → a ≡ a' → b ≡ b' → d ≡ d' → e ≡ e' → f ≡ f' → a ∷ b ∷ d ∷ e ∷ f ∷ [] ≡ a' ∷ b' ∷ d' ∷ e' ∷ f' ∷ []
 five a b d e f a' b' d' e' f' h i j k l = cc
 
--- ---- a step's row
-module _ (q : Profile) (c : Columns) (i r n : ℕ) (few : n < 2 ^ 32) (x : StepRecord) (known : IsKnown n x) (sends : Sends (machine q) c i r x) (row : IsRow c i r (main_row x)) (numbered : c.at 6 i 0 r ≡ x.step) where
+-- ---- what Main sends of a step to memory: the lists, one for each slot
+abbrev pub first_list : Tuples
+first_list = rows_with 6 Main.sel ((num 536870912 ⊕ Main.rs1) ∷ (num 8 ⊗ Main.STEP ⊕ num 1) ∷ num 0 ∷ Main.alo ∷ Main.ahi ∷ [])
+
+abbrev pub second_list : Tuples
+second_list = rows_with 6 Main.sel ((num 536870912 ⊕ Main.rs2) ∷ (num 8 ⊗ Main.STEP ⊕ num 2) ∷ num 0 ∷ Main.slo ∷ Main.shi ∷ [])
+
+abbrev pub old_list : Tuples
+old_list = rows_with 6 Main.ms (Main.w ∷ (num 8 ⊗ Main.STEP ⊕ num 3) ∷ num 0 ∷ Main.olo ∷ Main.ohi ∷ [])
+
+abbrev pub new_list : Tuples
+new_list = rows_with 6 (Main.sel ⊗ Main.st) (Main.w ∷ (num 8 ⊗ Main.STEP ⊕ num 4) ∷ num 1 ∷ Main.mlo ∷ Main.mhi ∷ [])
+
+abbrev pub put_list : Tuples
+put_list = rows_with 6 (Main.sel ⊗ Main.wr) ((num 536870912 ⊕ Main.rd) ∷ (num 8 ⊗ Main.STEP ⊕ num 5) ∷ num 1 ∷ Main.vlo ∷ Main.vhi ∷ [])
+
+-- row r of instance i is that of the step
+pub record HasStep (q : Profile) (c : Columns) (i r n : ℕ) (x : StepRecord) : Type 0 where
+  pub known : IsKnown n x
+  pub sends : Sends (machine q) c i r x
+  pub row : IsRow c i r (main_row x)
+  pub numbered : c.at 6 i 0 r ≡ x.step
+
+module _ (q : Profile) (c : Columns) (i r n : ℕ) (few : n < 2 ^ 32) (x : StepRecord) (has : HasStep q c i r n x) where
   abbrev ns : List Namespace
   ns = machine q
 
-  abbrev value : Term → ℕ
-  value e = at_row ns c i r e
-
   selected : c.at 6 i 8 r ≡ 1
-  selected = row 0 (omega arith)
+  selected = has.row 0 (omega arith)
 
   step_small : x.step < 2 ^ 32
-  step_small = let s = known.step in omega arith
+  step_small = let s = has.known.step in omega arith
 
   stores_is : c.at 6 i 23 r ≡ one_if (is_store x.instr)
-  stores_is = row 15 (omega arith) ∙ (rom_tells x.pc x.instr).4
+  stores_is = has.row 15 (omega arith) ∙ (rom_tells x.pc x.instr).4
 
   writes_is : c.at 6 i 21 r ≡ writes (rd_of x.instr)
-  writes_is = row 13 (omega arith) ∙ (rom_tells x.pc x.instr).3
+  writes_is = has.row 13 (omega arith) ∙ (rom_tells x.pc x.instr).3
 
-  pub first_sent : row_sent ns c (rows_with 6 Main.sel ((num 536870912 ⊕ Main.rs1) ∷ (num 8 ⊗ Main.STEP ⊕ num 1) ∷ num 0 ∷ Main.alo ∷ Main.ahi ∷ [])) i r ≡ first_read x
+  pub first_sent : row_sent ns c first_list i r ≡ first_read x
   first_sent =
-      sent_one ns c (rows_with 6 Main.sel ((num 536870912 ⊕ Main.rs1) ∷ (num 8 ⊗ Main.STEP ⊕ num 1) ∷ num 0 ∷ Main.alo ∷ Main.ahi ∷ [])) i r (is_on _ selected)
-      ∙ ap (λ u. u ∷ []) (five _ _ _ _ _ _ _ _ _ _ (at_register _ x.rs1 (row 2 (omega arith) ∙ (rom_tells x.pc x.instr).0 ∙ sym known.rs1) known.rs1_below) (at_time _ x.step 1 numbered step_small (omega arith)) refl (row 22 (omega arith)) (row 23 (omega arith)))
+      sent_one ns c first_list i r (is_on _ selected)
+      ∙ ap (λ u. u ∷ []) (five _ _ _ _ _ _ _ _ _ _ (at_register _ x.rs1 (has.row 2 (omega arith) ∙ (rom_tells x.pc x.instr).0 ∙ sym has.known.rs1) has.known.rs1_below) (at_time _ x.step 1 has.numbered step_small (omega arith)) refl (has.row 22 (omega arith)) (has.row 23 (omega arith)))
 
-  pub second_sent : row_sent ns c (rows_with 6 Main.sel ((num 536870912 ⊕ Main.rs2) ∷ (num 8 ⊗ Main.STEP ⊕ num 2) ∷ num 0 ∷ Main.slo ∷ Main.shi ∷ [])) i r ≡ second_read x
+  pub second_sent : row_sent ns c second_list i r ≡ second_read x
   second_sent =
-      sent_one ns c (rows_with 6 Main.sel ((num 536870912 ⊕ Main.rs2) ∷ (num 8 ⊗ Main.STEP ⊕ num 2) ∷ num 0 ∷ Main.slo ∷ Main.shi ∷ [])) i r (is_on _ selected)
-      ∙ ap (λ u. u ∷ []) (five _ _ _ _ _ _ _ _ _ _ (at_register _ x.rs2 (row 3 (omega arith) ∙ (rom_tells x.pc x.instr).1 ∙ sym known.rs2) known.rs2_below) (at_time _ x.step 2 numbered step_small (omega arith)) refl (row 24 (omega arith)) (row 25 (omega arith)))
-
-  abbrev old_list : Tuples
-  old_list = rows_with 6 Main.ms (Main.w ∷ (num 8 ⊗ Main.STEP ⊕ num 3) ∷ num 0 ∷ Main.olo ∷ Main.ohi ∷ [])
+      sent_one ns c second_list i r (is_on _ selected)
+      ∙ ap (λ u. u ∷ []) (five _ _ _ _ _ _ _ _ _ _ (at_register _ x.rs2 (has.row 3 (omega arith) ∙ (rom_tells x.pc x.instr).1 ∙ sym has.known.rs2) has.known.rs2_below) (at_time _ x.step 2 has.numbered step_small (omega arith)) refl (has.row 24 (omega arith)) (has.row 25 (omega arith)))
 
   old_by : (o : Option MemAct) → SendsAccess ns c i r x.s o → row_sent ns c old_list i r ≡ tuples_of (of_memory false x.step o)
   old_by None h = unsent ns c old_list i r (is_off _ h)
   old_by (Some m) h =
       sent_one ns c old_list i r (is_on _ h.0)
-      ∙ ap (λ u. u ∷ []) (five _ _ _ _ _ _ _ _ _ _ h.1 (at_time _ x.step 3 numbered step_small (omega arith)) refl (ap (λ t. slice_index t 2) h.2) (ap (λ t. slice_index t 3) h.2))
+      ∙ ap (λ u. u ∷ []) (five _ _ _ _ _ _ _ _ _ _ h.1 (at_time _ x.step 3 has.numbered step_small (omega arith)) refl (ap (λ t. slice_index t 2) h.2) (ap (λ t. slice_index t 3) h.2))
 
   pub old_sent : row_sent ns c old_list i r ≡ memory_read x
-  old_sent = old_by x.mem sends.access
-
-  abbrev new_list : Tuples
-  new_list = rows_with 6 (Main.sel ⊗ Main.st) (Main.w ∷ (num 8 ⊗ Main.STEP ⊕ num 4) ∷ num 1 ∷ Main.mlo ∷ Main.mhi ∷ [])
+  old_sent = old_by x.mem has.sends.access
 
   new_by : (o : Option MemAct) (b : Bool) → is_store x.instr ≡ b → SendsAccess ns c i r x.s o → Moves x.instr x.s o → row_sent ns c new_list i r ≡ tuples_of (stores b x.step o)
   new_by None b e h (none z f) = unsent ns c new_list i r (is_off _ (second_off _ _ (stores_is ∙ ap one_if f)))
@@ -171,13 +183,10 @@ module _ (q : Profile) (c : Columns) (i r n : ℕ) (few : n < 2 ^ 32) (x : StepR
   new_by (Some m) false e h k = unsent ns c new_list i r (is_off _ (second_off _ _ (stores_is ∙ ap one_if e)))
   new_by (Some m) true e h k =
       sent_one ns c new_list i r (is_on _ (both_on _ _ selected (stores_is ∙ ap one_if e)))
-      ∙ ap (λ u. u ∷ []) (five _ _ _ _ _ _ _ _ _ _ h.1 (at_time _ x.step 4 numbered step_small (omega arith)) refl (ap (λ t. slice_index t 6) h.2) (ap (λ t. slice_index t 7) h.2))
+      ∙ ap (λ u. u ∷ []) (five _ _ _ _ _ _ _ _ _ _ h.1 (at_time _ x.step 4 has.numbered step_small (omega arith)) refl (ap (λ t. slice_index t 6) h.2) (ap (λ t. slice_index t 7) h.2))
 
   pub new_sent : row_sent ns c new_list i r ≡ memory_write x
-  new_sent = new_by x.mem (is_store x.instr) refl sends.access known.moves
-
-  abbrev put_list : Tuples
-  put_list = rows_with 6 (Main.sel ⊗ Main.wr) ((num 536870912 ⊕ Main.rd) ∷ (num 8 ⊗ Main.STEP ⊕ num 5) ∷ num 1 ∷ Main.vlo ∷ Main.vhi ∷ [])
+  new_sent = new_by x.mem (is_store x.instr) refl has.sends.access has.known.moves
 
   rd_small : (o : Option (ℕ × ℕ)) (d v : ℕ) → IfSome o (λ w. w.0 < 32) → o ≡ Some (d, v) → d < 32
   rd_small None d v h e = absurd (none-some (d, v) e)
@@ -187,18 +196,18 @@ module _ (q : Profile) (c : Columns) (i r n : ℕ) (few : n < 2 ^ 32) (x : StepR
   put_by true e h w = unsent ns c put_list i r (is_off _ (second_off _ _ w))
   put_by false e h w =
       sent_one ns c put_list i r (is_on _ (both_on _ _ selected w))
-      ∙ ap (λ u. u ∷ []) (five _ _ _ _ _ _ _ _ _ _ (at_register _ (rd_of x.instr) (row 4 (omega arith) ∙ (rom_tells x.pc x.instr).2) (rd_small x.rd (rd_of x.instr) (value_in x.instr x) known.rd_below h)) (at_time _ x.step 5 numbered step_small (omega arith)) refl sends.v_low sends.v_high)
+      ∙ ap (λ u. u ∷ []) (five _ _ _ _ _ _ _ _ _ _ (at_register _ (rd_of x.instr) (has.row 4 (omega arith) ∙ (rom_tells x.pc x.instr).2) (rd_small x.rd (rd_of x.instr) (value_in x.instr x) has.known.rd_below h)) (at_time _ x.step 5 has.numbered step_small (omega arith)) refl has.sends.v_low has.sends.v_high)
 
   writes_if : writes (rd_of x.instr) ≡ (if rd_of x.instr == 0 then 0 else 1)
   unfolding writes
   writes_if = refl
 
   pub put_sent : row_sent ns c put_list i r ≡ register_write x
-  put_sent = put_by (rd_of x.instr == 0) refl known.rd (writes_is ∙ writes_if) ∙ ap (λ o. tuples_of (of_register x.step o)) (sym known.rd)
+  put_sent = put_by (rd_of x.instr == 0) refl has.known.rd (writes_is ∙ writes_if) ∙ ap (λ o. tuples_of (of_register x.step o)) (sym has.known.rd)
 
   -- and to the airs of its operation and of its access
   pub operation_sent : row_sent ns c Main.operation i r ≡ one operation_of x
-  operation_sent = sent_one ns c Main.operation i r (is_on _ selected) ∙ ap (λ u. u ∷ []) sends.operation
+  operation_sent = sent_one ns c Main.operation i r (is_on _ selected) ∙ ap (λ u. u ∷ []) has.sends.operation
 
   acted : (m : MemAct) → Moves x.instr x.s (Some m) → m.result ≡ aligned m.kind m.off m.old x.s
   acted m (none z f) = absurd (none-some m (sym z))
@@ -211,6 +220,6 @@ module _ (q : Profile) (c : Columns) (i r n : ℕ) (few : n < 2 ^ 32) (x : StepR
       sent_one ns c Main.access i r (is_on _ h.0)
       ∙ ap (λ u. u ∷ []) (h.2 ∙ ap (λ v. kind_number m.kind ∷ m.off ∷ m.old % 2 ^ 32 ∷ m.old / 2 ^ 32 ∷ x.s % 2 ^ 32 ∷ x.s / 2 ^ 32 ∷ v % 2 ^ 32 ∷ v / 2 ^ 32 ∷ []) (acted m k))
 
-  pub access_sent : row_sent ns c Main.access i r ≡ cond (has_row airs.Align x) (one access_of x) []
+  pub access_sent : row_sent ns c Main.access i r ≡ piece airs.Align access_of x
   unfolding has_row
-  access_sent = access_by x.mem sends.access known.moves
+  access_sent = access_by x.mem has.sends.access has.known.moves
