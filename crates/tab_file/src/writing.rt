@@ -6,6 +6,7 @@ ghost use Rattle.zk_layout.specs.Air.{machine_shape_of};
 ghost use Rattle.tab_file.specs.Format.{number, value, profile_number, header, instance_text, text};
 ghost use Rattle.tab_file.specs.Reading.{TabReads};
 ghost use Rattle.tab_file.specs.Steps.{height};
+ghost use Rattle.tab_file.specs.Pieces.{head_text, table_text, IsSmall};
 ghost use Rattle.gold.specs.declared.shapes.Form.TheVariants.{Two};
 
 use crate::numbers::{MAGIC, SMALL, TWO, WIDE};
@@ -60,10 +61,14 @@ fn put_columns(out: &mut Vec<u8>, columns: &[Column]) -> Result<(), AllocError>
     Ok(())
 }
 
-fn put_table(out: &mut Vec<u8>, table: &Table) -> Result<(), AllocError>
-    requires columns { length table.now.columns < 2 ^ 32 }
-    requires rows { height table.now.columns < 2 ^ 32 }
-    ensures { OnOk result (out.new.items ≡ out.old.items ++ instance_text (height table.now.columns) table.now) }
+/// Writes one instance of a machine's tables.
+///
+/// # Errors
+///
+/// Memory ran out.
+pub fn write_table(out: &mut Vec<u8>, table: &Table) -> Result<(), AllocError>
+    requires { IsSmall table.now }
+    ensures { OnOk result (out.new.items ≡ out.old.items ++ table_text table.now) }
 {
     put_number(out, table.air)?;
     put_number(out, table.instance)?;
@@ -94,6 +99,18 @@ fn put_header(out: &mut Vec<u8>, witness: &Witness) -> Result<(), AllocError>
     Ok(())
 }
 
+/// Writes what stands before the instances of a machine's tables.
+///
+/// # Errors
+///
+/// Memory ran out.
+pub fn write_head(out: &mut Vec<u8>, witness: &Witness) -> Result<(), AllocError>
+    requires { HaveShape (machine_shape_of Two) witness.now }
+    ensures { OnOk result (out.new.items ≡ out.old.items ++ head_text witness.now) }
+{
+    put_header(out, witness)
+}
+
 /// The file of a machine's tables: format 2, in their profile.
 ///
 /// # Errors
@@ -107,9 +124,9 @@ pub fn write(alloc: Global, witness: &Witness) -> Result<Vec<u8>, AllocError>
 {
     let tables = witness.tables.as_slice();
     let mut out = Vec::new(alloc);
-    put_header(&mut out, witness)?;
+    write_head(&mut out, witness)?;
     for table in tables {
-        put_table(&mut out, table)?;
+        write_table(&mut out, table)?;
     }
     Ok(out)
 }
