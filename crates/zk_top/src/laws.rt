@@ -1,6 +1,6 @@
 //! What holds of every outcome.
 ghost use Rattle.std.specs.Prelude.{◌≡◌, ℕ, List};
-ghost use Rattle.zk_top.specs.Outcome.{Outcome, Contents, AreBytes, IsRunOutcome, IsPilOutcome, IsOutcome};
+ghost use Rattle.zk_top.specs.Outcome.{Outcome, Contents, AreBytes, IsRunOutcome, IsWitnessOutcome, IsCheckOutcome, IsPilOutcome, IsOutcome};
 
 use bus_check::one_verdict;
 use elf_load::one_answer;
@@ -14,6 +14,8 @@ pub fn one_outcome()
 {
     one_command();
     one_run();
+    one_witness();
+    one_check();
     one_pil();
 }
 
@@ -23,6 +25,25 @@ fn one_run()
     ensures one { (contents : Contents) (elf input : List ℕ) (steps : ℕ) (o p : Outcome) → IsRunOutcome contents elf input steps o → IsRunOutcome contents elf input steps p → o ≡ p }
 {
     one_answer();
+}
+
+// Whatever the files hold, `witness` comes to one outcome and no other.
+fn one_witness()
+    ensures some { (contents : Contents) (elf input tables : List ℕ) (steps : ℕ) → (o : Outcome) × IsWitnessOutcome contents elf input tables steps o }
+    ensures one { (contents : Contents) (elf input tables : List ℕ) (steps : ℕ) (o p : Outcome) → IsWitnessOutcome contents elf input tables steps o → IsWitnessOutcome contents elf input tables steps p → o ≡ p }
+{
+    one_answer();
+}
+
+// Whatever bytes the files hold, `check` comes to one outcome and no other.
+fn one_check()
+    ensures some { (contents : Contents) (elf input tables : List ℕ) → AreBytes contents → (o : Outcome) × IsCheckOutcome contents elf input tables o }
+    ensures one { (contents : Contents) (elf input tables : List ℕ) (o p : Outcome) → IsCheckOutcome contents elf input tables o → IsCheckOutcome contents elf input tables p → o ≡ p }
+{
+    one_answer();
+    one_verdict();
+    one_text();
+    reads_or_fails();
 }
 
 // Whatever bytes the files hold, `pil` comes to one outcome and no other.
