@@ -1,6 +1,5 @@
 //! The table of a job.
-ghost use Rattle.std.specs.Prelude.{◌≡◌, ◌≢◌, ℕ, IfOk};
-ghost use Rattle.zk_layout.specs.declared.air.Air.TheVariants.{Mem, Out};
+ghost use Rattle.std.specs.Prelude.{ℕ, IfOk};
 ghost use Rattle.run_rows.specs.Runs.{values_of, IsJobOf};
 ghost use Rattle.row_columns.specs.Cells.{IsTableOf};
 
@@ -24,9 +23,7 @@ pub fn expand(
     job: &Job,
     chunks: &[Arc<Chunk>],
 ) -> Result<Table, AllocError>
-    requires mem { job.now.air ≢ Mem }
-    requires out { job.now.air ≢ Out }
-    requires job { (n : ℕ) × IsJobOf image.now n job.now (values_of chunks.now) }
+    requires { (n : ℕ) × IsJobOf image.now n job.now (values_of chunks.now) }
     ensures { IfOk result (IsTableOf job.now.air image.now job.now (values_of chunks.now)) }
 {
     match job.air {

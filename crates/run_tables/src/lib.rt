@@ -2,7 +2,11 @@
 #![tactic(auto)]
 
 mod expansion;
+mod laws;
 mod made;
+mod naming;
 
 pub use expansion::expand;
+pub use laws::{one_making, tables_of_jobs};
 pub use made::Made;
+pub use naming::named;

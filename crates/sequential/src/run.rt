@@ -1,12 +1,53 @@
 //! The run, chunk by chunk, and its tables.
-ghost use Rattle.std.specs.Prelude.{◌<◌};
+ghost use Rattle.std.specs.Prelude.{◌≡◌, ◌+◌, ◌<◌, ◌^◌, IfOk};
 ghost use Rattle.std.specs.Arc.{arc_value};
-ghost use Rattle.run_tables.specs.Sequential.{Makes};
+ghost use Rattle.rv_model.specs.Run.{RunsTo};
+ghost use Rattle.min_trace.specs.Chunk.{IsChunk, first_step};
+ghost use Rattle.run_tables.specs.Sequential.{sequential_witness, Makes};
+ghost use Rattle.sequential.specs.Progress.{IsAt};
 
+use crate::progress::Progress;
+use gold::{Profile, Witness};
+use min_trace::{Chunk, STEPS_PER_CHUNK};
 use run_tables::Made;
-use rv_model::{Image, RunEnd};
-use std::alloc::Global;
+use rv_emu::{Emu, Step};
+use rv_model::{Image, Public, RunEnd};
+use std::alloc::{AllocError, Global};
 use std::sync::Arc;
+
+// The emulator and the progress before the first chunk.
+fn begin(alloc: Global, image: &Arc<Image>, limit: u32) -> Result<(Emu, Progress), AllocError>
+    ensures emulator { IfOk result (λ r. r.0 ≡ record { image = arc_value image.now; limit = limit; number = 0 }) }
+    ensures progress { IfOk result (λ r. IsAt (arc_value image.now) 0 r.1) }
+{
+    let emu = Emu::new(alloc, Arc::try_clone(image)?, limit)?;
+    Ok((emu, Progress::new(alloc, image)?))
+}
+
+// What is made of the run, with its last chunk.
+fn end(progress: Progress, image: &Image, chunk: Chunk, public: Public) -> Result<Made, AllocError>
+    requires chunk { IsChunk image.now chunk }
+    requires next { IsAt image.now (first_step chunk.number) progress }
+    requires halts { RunsTo image.now (first_step chunk.number + chunk.steps) public }
+    requires few { first_step chunk.number + chunk.steps < 2 ^ 32 }
+    ensures steps { IfOk result (λ made. made.steps ≡ first_step chunk.number + chunk.steps) }
+    ensures public { IfOk result (λ made. made.public ≡ public) }
+    ensures witness { IfOk result (λ made. made.witness ≡ sequential_witness image.now (first_step chunk.number + chunk.steps) public) }
+{
+    let mut progress = progress;
+    let steps = STEPS_PER_CHUNK * chunk.number + chunk.steps;
+    progress.add(image, chunk)?;
+    let tables = progress.finish(image, steps, &public)?;
+    let witness = Witness {
+        profile: Profile::Small,
+        tables,
+    };
+    Ok(Made {
+        witness,
+        steps,
+        public,
+    })
+}
 
 /// The run of an image within `limit` steps: the sequential tables, the number of steps and the public output of a run that
 /// halts, or else how it ends.
@@ -14,5 +55,24 @@ pub fn sequential(alloc: Global, image: Arc<Image>, limit: u32) -> Result<Made, 
     requires { 0 < limit }
     ensures { Makes (arc_value image) limit result }
 {
-    Err(RunEnd::NoMemory)
+    let Ok((mut emu, mut progress)) = begin(alloc, &image, limit) else {
+        return Err(RunEnd::NoMemory);
+    };
+    loop {
+        match emu.next_chunk() {
+            Ok(Step::Chunk(chunk)) => {
+                let Ok(()) = progress.add(&image, chunk) else {
+                    return Err(RunEnd::NoMemory);
+                };
+            }
+            Ok(Step::Last(chunk, public)) => {
+                drop(emu);
+                let Ok(made) = end(progress, &image, chunk, public) else {
+                    return Err(RunEnd::NoMemory);
+                };
+                return Ok(made);
+            }
+            Err(end) => return Err(end),
+        }
+    }
 }

@@ -1,0 +1,12 @@
+-- Completeness of the constraints: the sequential tables of a run that halts are well-formed and accepted.
+use Rattle.std.specs.Prelude.{ℕ, ◌^◌, ◌<◌}
+use Rattle.rv_model.specs.Image.{Img, IsLoadable}
+use Rattle.rv_model.specs.Run.{RunsTo}
+use Rattle.rv_model.specs.declared.answer.Public.{Public}
+use Rattle.run_tables.specs.Sequential.{sequential_witness}
+use Rattle.machine_columns.specs.Accepted.{AreAccepted, AreWellFormed}
+
+-- The tables of a run of fewer than 2^32 steps are those of a well-formed file, and each line of the machine's text holds of them.
+abbrev pub Completeness : Type 0
+Completeness =
+    (image : Img) (n : ℕ) (public : Public) → IsLoadable image → n < 2 ^ 32 → RunsTo image n public → AreWellFormed (sequential_witness image n public) × AreAccepted image (sequential_witness image n public)

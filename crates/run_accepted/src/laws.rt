@@ -1,0 +1,26 @@
+//! The law, on a function that computes nothing.
+ghost use Rattle.run_accepted.specs.Laws.{Completeness};
+
+use air_main::main_rows;
+use image_rows::rom_law;
+use machine_columns::columns_laws;
+use main_run::machine_stands;
+use mem_rows::accesses_law;
+use min_trace::{bounds_law, execution_law, instruction_law};
+use run_lines::run_holds;
+
+/// The sequential tables of a run that halts within fewer than 2^32 steps are well-formed, and the machine's constraints hold of
+/// them.
+pub fn completeness()
+    ensures { Completeness }
+{
+    run_holds();
+    columns_laws();
+    machine_stands();
+    main_rows();
+    rom_law();
+    accesses_law();
+    instruction_law();
+    execution_law();
+    bounds_law();
+}

@@ -1,0 +1,4 @@
+pub mod Jobs
+pub mod Found
+pub mod Airs
+pub mod Once

@@ -1,0 +1,3 @@
+mod Count
+mod Sound
+mod Told
