@@ -1,5 +1,5 @@
 -- No identity of Main wraps.
-use Rattle.std.proofs.Common.{ℕ, ◌≢◌, ◌<◌, ◌≤◌, ◌+◌, ◌*◌, List, refl, subst, ⊎_elim}
+use Rattle.std.proofs.Common.{ℕ, Bool, ◌≢◌, ◌<◌, ◌≤◌, ◌+◌, ◌*◌, List, refl, subst, ⊎_elim}
 use Rattle.std.proofs.lemmas.Bool.{cases_lt}
 use Rattle.std.proofs.Math.Nat.{mod-lt}
 use Rattle.pil_ast.specs.Term.{Namespace, item_at}

@@ -12,10 +12,10 @@ use Rattle.machine_text.specs.Machine.{machine, main_rows}
 use Rattle.machine_text.specs.Words.{rows_with}
 use Rattle.machine_text.specs.Align
 use Rattle.machine_text.specs.Main
-use Rattle.rv_model.specs.Image.{Img}
+use Rattle.rv_model.specs.Image.{Img, IsLoadable}
 use Rattle.step_rows.specs.Tuples.{IsOperation, IsAccess}
 use Rattle.air_main.specs.Law.{at_row}
-use Rattle.air_mem.specs.Laws.{HasMem, MemHolds}
+use Rattle.air_mem.specs.Laws.{HasMem, MemHolds, MachineHas, OutPublics}
 use Rattle.main_run.specs.Chain.{MainStands}
 use Rattle.main_run.specs.Bus.{accesses, BusSupposed}
 use Rattle.main_run.specs.Run.{Supposed}

@@ -1,20 +1,18 @@
 -- How many rows of Main are selected, where the first n of all are.
-use Rattle.std.proofs.Common.{ℕ, Bool, true, false, zero, suc, not, eqb, cond, min, ◌≡◌, ◌≢◌, ◌<◌, ◌≤◌, ◌+◌, ◌-◌, ◌*◌, List, [], ◌∷◌, ◌++◌, All, length, Option, Some, None, refl, sym, ap, subst, ◌∙◌, ⊎_elim, arith}
+use Rattle.std.proofs.Common.{ℕ, Bool, true, false, zero, suc, not, eqb, cond, min, ◌≡◌, ◌≢◌, ◌<◌, ◌≤◌, ◌+◌, ◌-◌, ◌*◌, List, [], ◌∷◌, ◌++◌, All, length, map, refl, sym, subst, ◌∙◌, ⊎_elim, arith}
 use Rattle.std.specs.Prelude.{slice_index, slice_index_or, count_by, ◌==◌}
-use Rattle.std.specs.List.{sum_by, find}
-use Rattle.std.specs.Option.{option_map_or}
+use Rattle.std.specs.List.{sum_by}
 use Rattle.std.proofs.lemmas.Bool.{cases_lt, eq-eqb, ne_eqb}
 use Rattle.std.proofs.lemmas.List.Sums.{sum_by-cons}
 use Rattle.gold.specs.declared.instances.Table.{Table}
 use Rattle.gold.specs.declared.instances.Witness.{Witness}
 use Rattle.gold.specs.declared.shapes.AirShape.{AirShape}
-use Rattle.gold.specs.declared.shapes.Form.TheVariants.{Two}
 use Rattle.gold.specs.declared.shapes.Profile.{Profile}
 use Rattle.gold.specs.declared.shapes.Profile.TheVariants.{Small, Wide}
-use Rattle.gold.specs.Shapes.{Fill, Place, HaveShape, counts_from, in_profile, instances_from, places_from}
-use Rattle.zk_layout.specs.Air.{air_number, columns_per, machine_airs, machine_shape_of, rows_in}
+use Rattle.gold.specs.Shapes.{Fill, Place, counts_from, in_profile, instances_from, places_from}
+use Rattle.zk_layout.specs.Air.{air_number, air_shape, columns_per, machine_airs, rows_in, shape_in}
 use Rattle.zk_layout.specs.declared.air.Air.TheVariants as airs
-use Rattle.wit_columns.specs.Values.{instances_of, is_instance, value_at, value_in}
+use Rattle.wit_columns.specs.Values.{instances_of, is_instance, value_at}
 use Rattle.machine_columns.specs.Accepted.{AreWellFormed}
 use Rattle.verdict.specs.Steps.{selected_in, steps_of}
 
@@ -29,10 +27,14 @@ nonzero v = not (v == 0)
 moved : (n j k v : ℕ) → j ≡ k → Chosen n j v → Chosen n k v
 moved n j k v e h = subst (λ i. Chosen n i v) e h
 
-counts_on : (v : ℕ) → v ≢ 0 → cond (not (eqb v 0)) 1 0 ≡ 1
+-- what a row counts
+abbrev counted : ℕ → ℕ
+counted v = cond (not (eqb v 0)) 1 0
+
+counts_on : (v : ℕ) → v ≢ 0 → counted v ≡ 1
 counts_on v h = rw (ne_eqb v 0 h) refl
 
-counts_off : (v : ℕ) → v ≡ 0 → cond (not (eqb v 0)) 1 0 ≡ 0
+counts_off : (v : ℕ) → v ≡ 0 → counted v ≡ 0
 counts_off v h = rw (eq-eqb v 0 h) refl
 
 one_more_on : (c x rest long n b : ℕ) → c ≡ x + rest → x ≡ 1 → rest ≡ min long (n - (b + 1)) → b < n → c ≡ min (suc long) (n - b)
@@ -169,14 +171,21 @@ from_zero tables h n c i r l q = subst (λ j. Chosen n (0 + (i * h + r)) (value_
     none : (i : ℕ) → i ≡ 0 + i
     none i = omega arith
 
+-- the airs after Main
+abbrev others : List AirShape
+others = map air_shape (airs.Mem ∷ airs.Binary ∷ airs.Shift ∷ airs.Arith ∷ airs.Align ∷ airs.Out ∷ [])
+
+places_counted : (f : AirShape) (fs : List AirShape) (c : ℕ) (cs : List ℕ) (tables : List Table) (n : ℕ) → c ≡ instances_of tables 0 → f.columns ≡ 37 → Fill (instances_from 0 f 0 c ++ places_from 1 fs cs) tables → AreFirst f.rows n tables
+    → n ≤ instances_of tables 0 * f.rows → sum_by selected_in tables ≡ n
+places_counted f fs c cs tables n e wide fill firsts l =
+    in_all _ f.rows c n
+    (mains_counted n f.rows f refl (some_columns f.columns wide) (places_from 1 fs cs) (λ us q. none_later 1 fs cs us (omega arith) q) 0 c 0 tables fill (λ i r h q. from_zero tables f.rows n firsts i r (subst (λ m. i < m) e h) q))
+    (subst (λ m. n ≤ m * f.rows) (sym e) l)
+
 counted_by : (q : Profile) (tables : List Table) (n : ℕ) → Fill (places_from 0 (in_profile q machine_airs) (counts_from 0 7 tables)) tables → AreFirst (rows_in q airs.Main) n tables
     → n ≤ instances_of tables 0 * rows_in q airs.Main → sum_by selected_in tables ≡ n
-counted_by Small tables n fill c l =
-    in_all _ (rows_in Small airs.Main) (instances_of tables 0) n
-    (mains_counted n (rows_in Small airs.Main) _ refl (some_columns _ main_columns) _ (λ us q. none_later 1 _ _ us (omega arith) q) 0 (instances_of tables 0) 0 tables fill (from_zero tables (rows_in Small airs.Main) n c)) l
-counted_by Wide tables n fill c l =
-    in_all _ (rows_in Wide airs.Main) (instances_of tables 0) n
-    (mains_counted n (rows_in Wide airs.Main) _ refl (some_columns _ main_columns) _ (λ us q. none_later 1 _ _ us (omega arith) q) 0 (instances_of tables 0) 0 tables fill (from_zero tables (rows_in Wide airs.Main) n c)) l
+counted_by Small tables n fill c l = places_counted (shape_in Small airs.Main) others (instances_of tables 0) (counts_from 1 6 tables) tables n refl main_columns fill c l
+counted_by Wide tables n fill c l = places_counted (shape_in Wide airs.Main) others (instances_of tables 0) (counts_from 1 6 tables) tables n refl main_columns fill c l
 
 pub steps_counted : (w : Witness) (n : ℕ) → AreWellFormed w → AreFirst (rows_in w.profile airs.Main) n w.tables → n ≤ instances_of w.tables 0 * rows_in w.profile airs.Main → steps_of w ≡ n
 steps_counted w n h c l = counted_by w.profile w.tables n h.filled c l

@@ -1,3 +1,4 @@
 mod Count
 mod Sound
-mod Told
+mod Bytes
+mod Found

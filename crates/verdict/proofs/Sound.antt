@@ -1,5 +1,5 @@
 -- Accepted tables are the run.
-use Rattle.std.proofs.Common.{ℕ, zero, suc, ◌≡◌, ◌≢◌, ◌<◌, ◌≤◌, ◌+◌, ◌-◌, ◌*◌, ◌^◌, ◌⊎◌, inl, inr, refl, sym, ap, subst, ◌∙◌, ⊎_elim, arith}
+use Rattle.std.proofs.Common.{ℕ, ◌≡◌, ◌<◌, ◌≤◌, ◌+◌, ◌-◌, ◌*◌, ◌^◌, refl, sym, ap, subst, ◌∙◌, ⊎_elim, arith}
 use Rattle.std.proofs.Math.Nat.{mul-le-mul_right}
 use Rattle.std.proofs.lemmas.Bool.{cases_lt}
 use Rattle.gold.specs.declared.instances.Witness.{Witness}
@@ -16,8 +16,6 @@ use Rattle.rv_model.specs.declared.answer.Public.{Public}
 use Rattle.pil_ast.specs.Value.{public_value}
 use Rattle.wit_columns.specs.Values.{instances_of, value_at}
 use Rattle.machine_text.specs.Machine.{machine, main_rows}
-use Rattle.machine_text.specs.Main
-use Rattle.air_main.specs.Law.{at_row}
 use Rattle.main_run.specs.Bus.{accesses}
 use Rattle.main_run.specs.Chain.{IsPlace}
 use Rattle.main_run.specs.Exact.{NoWrapLaw}

@@ -1,4 +1,4 @@
-use Rattle.std.proofs.Common.{◌≡◌, ◌⊎◌, inl, inr, ⊎_elim, refl, sym, ap, ◌∙◌, List}
+use Rattle.std.proofs.Common.{◌≡◌, ◌⊎◌, inl, inr, refl, sym, ap, ◌∙◌, List}
 use Rattle.gold.specs.declared.instances.Witness.{Witness}
 use Rattle.rv_model.specs.Image.{Img}
 use Rattle.pil_ast.specs.Term.{Namespace}
@@ -24,8 +24,8 @@ judged : Laws → (image : Img) (w : Witness) → (j : Judgement) × IsJudged im
 unfolding AreAccepted
 judged laws image w =
     elim (laws.some (machine w.profile) (values_of image w)) as (λ _. (j : Judgement) × IsJudged image w j) [
-      inl h ↦ (Accepted (public_of image w), (h, refl))
-    | inr h ↦ (Broken h.0, h.1)
+      | inl h ↦ (Accepted (public_of image w), (h, refl))
+      | inr h ↦ (Broken h.0, h.1)
     ]
 
 one_judgement : Laws → (image : Img) (w : Witness) (a b : Judgement) → IsJudged image w a → IsJudged image w b → a ≡ b

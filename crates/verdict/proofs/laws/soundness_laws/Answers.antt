@@ -1,4 +1,4 @@
-use Rattle.verdict.proofs.Sound.{RunLaws, runs, are_steps, nothing_wraps}
+use Rattle.verdict.proofs.Sound.{runs, are_steps, nothing_wraps}
 use Rattle.verdict.proofs.laws.soundness_laws.Goals as goal
 
 pub returns-clause-headline : goal.returns-clause-headline

@@ -1,7 +1,7 @@
 use Rattle.std.proofs.Common.{◌≡◌, ◌+◌, ◌*◌, ◌%◌, ◌^◌, ◌≤◌, ℕ, length, take, arith, refl, ap, ◌∙◌}
 use Rattle.machine_columns.specs.Accepted.{published}
 use Rattle.verdict.specs.Told.{told_bytes}
-use Rattle.verdict.proofs.Told.{bytes_step, bytes_all}
+use Rattle.verdict.proofs.Bytes.{bytes_step, bytes_all}
 use Rattle.verdict.proofs.told.output.Goals as goal
 
 pub loop-i-init : goal.loop-i-init
