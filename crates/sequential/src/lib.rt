@@ -6,3 +6,6 @@ mod run;
 mod whole;
 
 pub use run::sequential;
+
+#[cfg(test)]
+mod tests;
