@@ -8,11 +8,11 @@ use Rattle.tab_file.specs.Format.{header, instance_text}
 use Rattle.tab_file.specs.Steps.{height}
 
 -- the magic, the version, the profile, and the numbers of instances
-abbrev pub head_text : Witness → List ℕ
+unfoldable pub head_text : Witness → List ℕ
 head_text witness = header Two witness.profile 7 (counts_from 0 7 witness.tables)
 
 -- an instance, whose first column tells its rows
-abbrev pub table_text : Table → List ℕ
+unfoldable pub table_text : Table → List ℕ
 table_text t = instance_text (height t.columns) t
 
 -- its numbers of columns and of rows have 32 bits

@@ -61,14 +61,9 @@ fn put_columns(out: &mut Vec<u8>, columns: &[Column]) -> Result<(), AllocError>
     Ok(())
 }
 
-/// Writes one instance of a machine's tables.
-///
-/// # Errors
-///
-/// Memory ran out.
-pub fn write_table(out: &mut Vec<u8>, table: &Table) -> Result<(), AllocError>
+fn put_table(out: &mut Vec<u8>, table: &Table) -> Result<(), AllocError>
     requires { IsSmall table.now }
-    ensures { OnOk result (out.new.items ≡ out.old.items ++ table_text table.now) }
+    ensures { OnOk result (out.new.items ≡ out.old.items ++ instance_text (height table.now.columns) table.now) }
 {
     put_number(out, table.air)?;
     put_number(out, table.instance)?;
@@ -76,6 +71,19 @@ pub fn write_table(out: &mut Vec<u8>, table: &Table) -> Result<(), AllocError>
     put_number(out, rows(table) as u32)?;
     put_columns(out, table.columns.as_slice())?;
     Ok(())
+}
+
+/// Writes one instance of a machine's tables.
+///
+/// # Errors
+///
+/// Memory ran out.
+#[tactic(auto, unfolding(crate::specs::Pieces::table_text))]
+pub fn write_table(out: &mut Vec<u8>, table: &Table) -> Result<(), AllocError>
+    requires { IsSmall table.now }
+    ensures { OnOk result (out.new.items ≡ out.old.items ++ table_text table.now) }
+{
+    put_table(out, table)
 }
 
 /// How many of the tables are of an air.
@@ -104,6 +112,7 @@ fn put_header(out: &mut Vec<u8>, witness: &Witness) -> Result<(), AllocError>
 /// # Errors
 ///
 /// Memory ran out.
+#[tactic(auto, unfolding(crate::specs::Pieces::head_text))]
 pub fn write_head(out: &mut Vec<u8>, witness: &Witness) -> Result<(), AllocError>
     requires { HaveShape (machine_shape_of Two) witness.now }
     ensures { OnOk result (out.new.items ≡ out.old.items ++ head_text witness.now) }
@@ -124,9 +133,9 @@ pub fn write(alloc: Global, witness: &Witness) -> Result<Vec<u8>, AllocError>
 {
     let tables = witness.tables.as_slice();
     let mut out = Vec::new(alloc);
-    write_head(&mut out, witness)?;
+    put_header(&mut out, witness)?;
     for table in tables {
-        write_table(&mut out, table)?;
+        put_table(&mut out, table)?;
     }
     Ok(out)
 }

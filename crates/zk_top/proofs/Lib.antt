@@ -8,3 +8,4 @@ pub mod Verdicts
 pub mod Making
 pub mod Pieces
 pub mod Checks
+pub mod Sentences

@@ -1,5 +1,5 @@
 -- A file that is created and written piece by piece.
-use Rattle.std.proofs.Common.{◌≡◌, ◌==◌, ◌+◌, ℕ, zero, suc, ◌<◌, ◌≤◌, List, [], ◌∷◌, ◌++◌, length, take, min, get_or, Bool, true, false, cond, Option, Some, None, inl, inr, refl, sym, ap, ◌∙◌, subst, arith, append_assoc, append-nil, All}
+use Rattle.std.proofs.Common.{◌≡◌, ◌==◌, ◌+◌, ℕ, zero, suc, ◌<◌, ◌≤◌, List, [], ◌∷◌, ◌++◌, length, take, min, get_or, Bool, true, false, cond, Option, Some, None, Result, Ok, Err, OnOk, OnErr, inl, inr, refl, sym, ap, ◌∙◌, subst, arith, append_assoc, append-nil, All}
 use Rattle.std.proofs.lemmas.Bool.{eq-eqb}
 use Rattle.std.proofs.lemmas.List.{flat_map_more, take_more, take_all}
 use Rattle.std.proofs.Math.Seq.{take-length}
@@ -11,7 +11,6 @@ use mathlib.Core.Path.{fun_ext}
 use Rattle.gold.specs.declared.instances.Table.{Table}
 use Rattle.host_io.specs.World.{World, Asked, Created, with_slot, with_file, after_asking, after_create, after_write}
 use Rattle.host_io.specs.Calls.{HasWrittenFront}
-use Rattle.host_io.specs.Slots.{SameSlots}
 use Rattle.tab_file.specs.Pieces.{table_text}
 use Rattle.zk_top.specs.Ends.{Asks, AsksAtMost, with_bytes}
 use Rattle.zk_top.specs.Parts.{HasBehind, IsCut}
@@ -57,26 +56,26 @@ written_none w slot =
 pub no_front : (w : World) (slot : ℕ) (bytes : List ℕ) → HasWrittenFront w w slot bytes
 no_front w slot bytes = record { count = 0; after = sym (written_none w slot) }
 
-take_past : (done piece rest : List ℕ) (k : ℕ) → take (length done + min k (length piece)) (done ++ (piece ++ rest)) ≡ done ++ take k piece
-take_past [] piece rest k = take_min piece rest k
-  where
-    take_min : (xs ys : List ℕ) (n : ℕ) → take (0 + min n (length xs)) (xs ++ ys) ≡ take n xs
-    take_min [] ys zero = let none : 0 + min zero (length {A = ℕ} []) ≡ zero = omega arith in rw none refl
-    take_min [] ys (suc n) = let none : 0 + min (suc n) (length {A = ℕ} []) ≡ zero = omega arith in rw none refl
-    take_min (x ∷ xs) ys zero = refl
-    take_min (x ∷ xs) ys (suc n) =
-        let more : 0 + min (suc n) (length (x ∷ xs)) ≡ suc (0 + min n (length xs)) = omega arith in
-        rw more (ap (λ (zs : List ℕ). x ∷ zs) (take_min xs ys n))
-take_past (d ∷ done) piece rest k =
-    let more : length (d ∷ done) + min k (length piece) ≡ suc (length done + min k (length piece)) = omega arith in
-    rw more (ap (λ (zs : List ℕ). d ∷ zs) (take_past done piece rest k))
+-- a front of a list is a front of what begins with it
+take_front : (xs ys : List ℕ) (n m : ℕ) → m ≡ min n (length xs) → take m (xs ++ ys) ≡ take n xs
+take_front [] ys n zero e = sym (take_all n [] (omega arith))
+take_front [] ys n (suc m) e = let no : ⊥ = omega (arith, e) in absurd no
+take_front (x ∷ xs) ys zero zero e = refl
+take_front (x ∷ xs) ys zero (suc m) e = let no : ⊥ = omega (arith, e) in absurd no
+take_front (x ∷ xs) ys (suc n) zero e = let no : ⊥ = omega (arith, e) in absurd no
+take_front (x ∷ xs) ys (suc n) (suc m) e = ap (λ (zs : List ℕ). x ∷ zs) (take_front xs ys n m (omega (arith, e)))
+
+take_past : (done piece rest : List ℕ) (k m : ℕ) → m ≡ length done + min k (length piece) → take m (done ++ (piece ++ rest)) ≡ done ++ take k piece
+take_past [] piece rest k m e = take_front piece rest k m (omega (arith, e))
+take_past (d ∷ done) piece rest k zero e = let no : ⊥ = omega (arith, e) in absurd no
+take_past (d ∷ done) piece rest k (suc m) e = ap (λ (zs : List ℕ). d ∷ zs) (take_past done piece rest k m (omega (arith, e)))
 
 -- what was written and a front of the next piece are a front of the whole
 pub front_further : (w0 w1 w2 : World) (slot : ℕ) (done piece rest whole : List ℕ) → whole ≡ done ++ (piece ++ rest) → w1 ≡ after_write w0 slot done → HasWrittenFront w1 w2 slot piece → HasWrittenFront w0 w2 slot whole
 front_further w0 w1 w2 slot done piece rest whole split e front = record {
   count = length done + min front.count (length piece);
   after = front.after ∙ ap (λ (w : World). after_write w slot (take front.count piece)) e ∙ written_twice w0 slot done (take front.count piece)
-  ∙ ap (after_write w0 slot) (sym (take_past done piece rest front.count) ∙ ap (take (length done + min front.count (length piece))) (sym split));
+      ∙ ap (after_write w0 slot) (sym (take_past done piece rest front.count (length done + min front.count (length piece)) refl) ∙ ap (take (length done + min front.count (length piece))) (sym split));
 }
 
 -- the text of the tables from the i-th on
@@ -91,35 +90,59 @@ rest_of (u ∷ us) (suc i) t lt is =
 abbrev pub so_far : List ℕ → List Table → ℕ → List ℕ
 so_far head tables i = head ++ flat_map table_text (take i tables)
 
-pub table_further : (w0 w1 w2 : World) (slot : ℕ) (head : List ℕ) (tables : List Table) (i : ℕ) (t : Table) → i < length tables → t ≡ get_or tables i t → w1 ≡ after_write w0 slot (so_far head tables i) → w2 ≡ after_write w1 slot (table_text t)
-    → w2 ≡ after_write w0 slot (so_far head tables (i + 1))
-table_further w0 w1 w2 slot head tables i t lt is e f =
+-- so much was to be written, and of that the piece is still to be
+pub record HasPut (w0 w1 : World) (slot : ℕ) (so_far piece : List ℕ) : Type 0 where
+  pub done : List ℕ
+  pub after : w1 ≡ after_write w0 slot done
+  pub rest : done ++ piece ≡ so_far
+
+pub put_head : (w : World) (slot : ℕ) (head piece : List ℕ) (tables : List Table) → piece ≡ head → HasPut w w slot (so_far head tables 0) piece
+put_head w slot head piece tables e = record { done = []; after = sym (written_none w slot); rest = e ∙ sym (append-nil head) }
+
+pub put_more : (w0 w1 w2 : World) (slot : ℕ) (head piece next : List ℕ) (tables : List Table) (i : ℕ) (t : Table) → i < length tables → t ≡ get_or tables i t → HasPut w0 w1 slot (so_far head tables i) piece → w2 ≡ after_write w1 slot (piece ++ table_text t) → next ≡ []
+    → HasPut w0 w2 slot (so_far head tables (i + 1)) next
+put_more w0 w1 w2 slot head piece next tables i t lt is put f none =
     let more : take (i + 1) tables ≡ take i tables ++ t ∷ [] = take_more tables i t lt ∙ ap (λ (u : Table). take i tables ++ u ∷ []) (sym is) in
-    f ∙ ap (λ (w : World). after_write w slot (table_text t)) e ∙ written_twice w0 slot (so_far head tables i) (table_text t)
-    ∙ ap (after_write w0 slot) (flat_map_more table_text head (take i tables) t ∙ ap (λ (us : List Table). head ++ flat_map table_text us) (sym more))
+    record {
+      done = put.done ++ (piece ++ table_text t);
+      after = f ∙ ap (λ (w : World). after_write w slot (piece ++ table_text t)) put.after ∙ written_twice w0 slot put.done (piece ++ table_text t);
+      rest = ap (λ (xs : List ℕ). (put.done ++ (piece ++ table_text t)) ++ xs) none ∙ append-nil (put.done ++ (piece ++ table_text t)) ∙ sym (append_assoc put.done piece (table_text t)) ∙ ap (λ (xs : List ℕ). xs ++ table_text t) put.rest
+          ∙ flat_map_more table_text head (take i tables) t ∙ ap (λ (us : List Table). head ++ flat_map table_text us) (sym more);
+    }
 
-pub table_front : (w0 w1 w2 : World) (slot : ℕ) (head whole : List ℕ) (tables : List Table) (i : ℕ) (t : Table) → whole ≡ head ++ flat_map table_text tables → i < length tables → t ≡ get_or tables i t → w1 ≡ after_write w0 slot (so_far head tables i)
-    → HasWrittenFront w1 w2 slot (table_text t) → HasWrittenFront w0 w2 slot whole
-table_front w0 w1 w2 slot head whole tables i t split lt is e front =
+pub put_front : (w0 w1 w2 : World) (slot : ℕ) (head piece whole : List ℕ) (tables : List Table) (i : ℕ) (t : Table) → whole ≡ head ++ flat_map table_text tables → i < length tables → t ≡ get_or tables i t → HasPut w0 w1 slot (so_far head tables i) piece
+    → HasWrittenFront w1 w2 slot (piece ++ table_text t) → HasWrittenFront w0 w2 slot whole
+put_front w0 w1 w2 slot head piece whole tables i t split lt is put front =
     let rest = rest_of tables i t lt is in
-    front_further w0 w1 w2 slot (so_far head tables i) (table_text t) rest.0 whole
-    (split ∙ ap (λ (xs : List ℕ). head ++ xs) rest.1 ∙ sym (append_assoc head (flat_map table_text (take i tables)) (table_text t ++ rest.0))) e front
+    let all : whole ≡ put.done ++ ((piece ++ table_text t) ++ rest.0) =
+    split ∙ ap (λ (xs : List ℕ). head ++ xs) rest.1 ∙ sym (append_assoc head (flat_map table_text (take i tables)) (table_text t ++ rest.0))
+    ∙ ap (λ (xs : List ℕ). xs ++ (table_text t ++ rest.0)) (sym put.rest) ∙ append_assoc put.done piece (table_text t ++ rest.0) ∙ ap (λ (xs : List ℕ). put.done ++ xs) (sym (append_assoc piece (table_text t) rest.0)) in
+    front_further w0 w1 w2 slot put.done (piece ++ table_text t) rest.0 whole all put.after front
 
-pub head_front : (w0 w2 : World) (slot : ℕ) (head whole : List ℕ) (tables : List Table) → whole ≡ head ++ flat_map table_text tables → HasWrittenFront w0 w2 slot head → HasWrittenFront w0 w2 slot whole
-head_front w0 w2 slot head whole tables split front =
-    front_further w0 w0 w2 slot [] head (flat_map table_text tables) whole split (sym (written_none w0 slot)) front
+whole_put : (w0 w1 : World) (slot : ℕ) (head piece whole : List ℕ) (tables : List Table) (i : ℕ) → whole ≡ head ++ flat_map table_text tables → length tables ≤ i → (put : HasPut w0 w1 slot (so_far head tables i) piece) → whole ≡ put.done ++ piece
+whole_put w0 w1 slot head piece whole tables i split le put = split ∙ ap (λ (us : List Table). head ++ flat_map table_text us) (sym (take_all i tables le)) ∙ sym put.rest
 
-pub head_written : (w0 w1 : World) (slot : ℕ) (head : List ℕ) (tables : List Table) → w1 ≡ after_write w0 slot head → w1 ≡ after_write w0 slot (so_far head tables 0)
-head_written w0 w1 slot head tables e = e ∙ ap (after_write w0 slot) (sym (append-nil head))
+pub put_all : (w0 w1 w2 : World) (slot : ℕ) (head piece whole : List ℕ) (tables : List Table) (i : ℕ) → whole ≡ head ++ flat_map table_text tables → length tables ≤ i → HasPut w0 w1 slot (so_far head tables i) piece → w2 ≡ after_write w1 slot piece → w2 ≡ after_write w0 slot whole
+put_all w0 w1 w2 slot head piece whole tables i split le put f =
+    f ∙ ap (λ (w : World). after_write w slot piece) put.after ∙ written_twice w0 slot put.done piece ∙ ap (after_write w0 slot) (sym (whole_put w0 w1 slot head piece whole tables i split le put))
 
-pub all_written : (w0 w1 : World) (slot : ℕ) (head whole : List ℕ) (tables : List Table) (i : ℕ) → whole ≡ head ++ flat_map table_text tables → length tables ≤ i → w1 ≡ after_write w0 slot (so_far head tables i) → w1 ≡ after_write w0 slot whole
-all_written w0 w1 slot head whole tables i split le e =
-    e ∙ ap (after_write w0 slot) (ap (λ (us : List Table). head ++ flat_map table_text us) (take_all i tables le) ∙ sym split)
+pub put_last : (w0 w1 w2 : World) (slot : ℕ) (head piece whole : List ℕ) (tables : List Table) (i : ℕ) → whole ≡ head ++ flat_map table_text tables → length tables ≤ i → HasPut w0 w1 slot (so_far head tables i) piece → HasWrittenFront w1 w2 slot piece → HasWrittenFront w0 w2 slot whole
+put_last w0 w1 w2 slot head piece whole tables i split le put front =
+    front_further w0 w1 w2 slot put.done piece [] whole (whole_put w0 w1 slot head piece whole tables i split le put ∙ ap (λ (xs : List ℕ). put.done ++ xs) (sym (append-nil piece))) put.after front
 
--- ---- the slots stay
+-- ---- what an answer says, weakened
 
-pub slots_then : (a b c : ℕ → Type 0) → SameSlots a b → SameSlots b c → SameSlots a c
-slots_then a b c p q = λ n. (λ x. (p n).0 ((q n).0 x), λ x. (q n).1 ((p n).1 x))
+pub on_ok : {T E : Type 0} (r : Result T E) (P Q : Type 0) → (P → Q) → OnOk r P → OnOk r Q
+on_ok (Ok x) P Q f p = f p
+on_ok (Err e) P Q f p = p
+
+pub on_err : {T E : Type 0} (r : Result T E) (P Q : Type 0) → (P → Q) → OnErr r P → OnErr r Q
+on_err (Ok x) P Q f p = p
+on_err (Err e) P Q f p = f p
+
+pub so_on_err : {T E : Type 0} (r : Result T E) (P : Type 0) → P → OnErr r P
+so_on_err (Ok x) P p = tt
+so_on_err (Err e) P p = p
 
 -- ---- a file that is created
 
@@ -132,7 +155,7 @@ behind w0 w2 name slot bytes e =
     record {
       asked = ap (λ (w : World). w.asked) e;
       contents = ap (λ (w : World). w.contents) e ∙ ap (λ (t : List ℕ). with_file w1.contents t (option_map (λ old. old ++ bytes))) (created_target w0 name slot)
-      ∙ file_twice w0.contents name (λ old. Some []) (option_map (λ old. old ++ bytes));
+          ∙ file_twice w0.contents name (λ old. Some []) (option_map (λ old. old ++ bytes));
       reported = ap (λ (w : World). w.reported) e;
       left = ap (λ (w : World). w.left) e;
     }

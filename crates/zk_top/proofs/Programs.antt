@@ -1,5 +1,5 @@
 -- The stage of the ELF file and the input, whatever follows it.
-use Rattle.std.proofs.Common.{◌≡◌, ◌⊎◌, inl, inr, ℕ, ◌-◌, ◌^◌, List, [], ◌∷◌, ◌++◌, Some, refl, sym, ap, ◌∙◌, subst}
+use Rattle.std.proofs.Common.{◌≡◌, ◌⊎◌, inl, inr, ℕ, ◌≤◌, ◌-◌, ◌^◌, List, [], ◌∷◌, ◌++◌, length, Some, refl, sym, ap, ◌∙◌, subst}
 use Rattle.host_io.specs.World.{World, Asked, Opened}
 use Rattle.rv_model.specs.Image.{Img}
 use Rattle.rv_model.specs.Run.{End, Halted, Faulted, Limited, end_within}
@@ -55,13 +55,19 @@ module _ (contents : Contents) (elf input : List ℕ) (On : Img → Outcome → 
         by (inl p) = absurd (told.2.0 p.0 p.1)
         by (inr q) = refused_asks (Opened elf ∷ []) (statuses.BadElf told.0) o old new (q.2 ∙ ap (λ (e : ElfErr). refused (Opened elf ∷ []) (statuses.BadElf e)) (told.2.1 q.0 q.1)) asks (inr read)
 
--- what the program that was had comes to is what follows it
+-- what a program comes to is what follows it, where both files are there and the ELF file loads in one way
+pub given_program : (contents : Contents) (elf input : List ℕ) (On : Img → Outcome → Type 0) (file : List ℕ) (bare : Img) (bytes : List ℕ) (o : Outcome) → contents elf ≡ Some file → length file ≤ 2 ^ 26 → IsOnlyImage file bare → contents input ≡ Some bytes → length bytes ≤ 2 ^ 24 - 8
+    → WithProgram contents elf input On o → On (with_input bare bytes) o
+given_program contents elf input On file bare bytes o found fits only input_found input_fits h =
+    let loaded = file_on (Opened elf ∷ []) (contents elf) (2 ^ 26) files.Elf (OnFile contents elf input On) o file found fits h in
+    let whole = image_on contents elf input On file bare o only loaded in
+    file_on (program_names elf input) (contents input) (2 ^ 24 - 8) files.Input (OnBytes contents elf input On bare) o bytes input_found input_fits whole
+
+-- so it is for a program that was had
 pub program_on : (elf input : List ℕ) (On : Img → Outcome → Type 0) (o : Outcome) (image : Img) (old new : World) → HasProgram elf input image old new → WithProgram old.contents elf input On o → On image o
 program_on elf input On o image old new has h =
-    let loaded = file_on (Opened elf ∷ []) (old.contents elf) (2 ^ 26) files.Elf (OnFile old.contents elf input On) o has.file has.has.found has.has.fits h in
-    let bare = image_on old.contents elf input On has.file has.bare o has.only loaded in
-    let whole = file_on (program_names elf input) (old.contents input) (2 ^ 24 - 8) files.Input (OnBytes old.contents elf input On has.bare) o has.bytes has.read.found has.read.fits bare in
-    subst (λ (i : Img). On i o) (sym has.is) whole
+    subst (λ (i : Img). On i o) (sym has.is)
+    (given_program old.contents elf input On has.file has.bare has.bytes o has.has.found has.has.fits has.only has.read.found has.read.fits h)
 
 pub program_asks : (elf input : List ℕ) (image : Img) (old new : World) → HasProgram elf input image old new → Asks (program_names elf input) old new
 program_asks elf input image old new has = asks_both (Opened elf ∷ []) (Opened input ∷ []) old has.mid new has.has.asks has.read.asks

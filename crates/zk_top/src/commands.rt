@@ -5,10 +5,12 @@ ghost use Rattle.zk_words.specs.Words.{Reads, texts};
 ghost use Rattle.zk_words.specs.declared.command.Command.{Command as Asked};
 ghost use Rattle.zk_top.specs.Outcome.{Outcome, IsOutcome};
 ghost use Rattle.zk_top.specs.Ends.{Ends};
+ghost use Rattle.zk_top.specs.Headline.{Headline};
 
 use crate::checking::pil_call;
 use crate::ending::refuse;
 use crate::judging::check_call;
+use crate::laws::headline;
 use crate::printing::print_call;
 use crate::running::run_call;
 use crate::witnessing::witness_one;
@@ -27,8 +29,11 @@ pub fn top<H: Host>(alloc: Global, words: &[String], host: &mut H) -> Status
     ensures fault { result ≡ Status.HostFault → HasRisen (H.faults host.old) (H.faults host.new) }
     // Whatever the host tells, words that read as no command are told apart from those that do.
     ensures bad_words { result ≡ Status.BadWords → (command : Asked) → Reads (texts words.now) command → ⊥ }
+    // What `witness` and `check` come to is the headline's.
+    ensures headline { Headline }
     ensures no_command { ((command : Asked) → Reads (texts words.now) command → ⊥) → (result ≡ Status.BadWords) ⊎ ((result ≡ Status.HostFault) ⊎ (result ≡ Status.NoMemory)) }
 {
+    headline();
     match read_words(words) {
         Some(Command::Run { steps }) => match words {
             [_, elf, input, _] => run_call(alloc, host, elf.as_str(), input.as_str(), steps),

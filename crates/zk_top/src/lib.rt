@@ -21,7 +21,7 @@ mod writing;
 pub use checking::pil_call;
 pub use commands::top;
 pub use judging::check_call;
-pub use laws::one_outcome;
+pub use laws::{headline, one_outcome};
 pub use printing::print_call;
 pub use running::run_call;
 pub use witnessing::witness_one;

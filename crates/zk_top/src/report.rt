@@ -35,11 +35,7 @@ pub fn check_text(alloc: Global, public: &Public) -> Result<Vec<u8>, AllocError>
 }
 
 // Writes the lines of what is published.
-fn push_public_output(
-    alloc: Global,
-    public: &Public,
-    text: &mut Vec<u8>,
-) -> Result<(), AllocError>
+fn push_public_output(alloc: Global, public: &Public, text: &mut Vec<u8>) -> Result<(), AllocError>
     ensures { OnOk result (text.new.items ≡ text.old.items ++ public_text public.now) }
 {
     text.extend_from_slice(b"exit ")?;

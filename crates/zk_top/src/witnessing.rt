@@ -3,6 +3,7 @@ ghost use Rattle.std.specs.Prelude.{◌≡◌, ◌≢◌, ◌≤◌, ◌<◌, Li
 ghost use Rattle.gold.specs.Shapes.{HaveShape};
 ghost use Rattle.gold.specs.declared.shapes.Form.TheVariants.{Two};
 ghost use Rattle.zk_layout.specs.Air.{machine_shape_of};
+ghost use Rattle.rv_model.specs.Image.{IsLoadable};
 ghost use Rattle.host_io.specs.World.{World, Asked};
 ghost use Rattle.host_io.specs.Calls.{HasRisen};
 ghost use Rattle.zk_top.specs.Outcome.{Outcome, program_names, of_made, IsWitnessOutcome};
@@ -13,14 +14,21 @@ use crate::ending::{finish, refuse};
 use crate::loading::program_of;
 use crate::report::run_text;
 use crate::writing::create_tables;
-use completeness::run_is_accepted;
 use host_io::Host;
+use run_accepted::completeness;
 use run_tables::Made;
 use rv_model::{Image, RunEnd, run_law};
 use sequential::sequential;
 use std::alloc::Global;
 use std::sync::Arc;
 use zk_words::Status;
+
+// An image can be run. The call computes nothing.
+fn can_run(image: &Image)
+    ensures { IsLoadable image.now }
+{
+    let _entry = image.entry;
+}
 
 // The tables of the image's run, or how it ends without.
 fn made_of(alloc: Global, image: Image, steps: u32) -> Result<Made, Status>
@@ -30,9 +38,8 @@ fn made_of(alloc: Global, image: Image, steps: u32) -> Result<Made, Status>
     ensures no_bad_words { IsErrOf result Status.BadWords → ⊥ }
 {
     run_law();
-    let Ok(()) = run_is_accepted() else {
-        return Err(Status::NoMemory);
-    };
+    completeness();
+    can_run(&image);
     let Ok(image) = Arc::new(alloc, image) else {
         return Err(Status::NoMemory);
     };

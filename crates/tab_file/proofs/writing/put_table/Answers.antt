@@ -2,7 +2,7 @@ use Rattle.std.proofs.Common.{◌≡◌, ℕ, ◌++◌, List, length, append_ass
 use Rattle.std.specs.List.{flat_map}
 use Rattle.tab_file.specs.Format.{number, value}
 use Rattle.tab_file.specs.Steps.{height}
-use Rattle.tab_file.proofs.writing.write_table.Goals as goal
+use Rattle.tab_file.proofs.writing.put_table.Goals as goal
 
 -- five texts that are written one after the other
 five : (o1 o2 o3 o4 o5 o a b c d e : List ℕ) → o1 ≡ o ++ a → o2 ≡ o1 ++ b → o3 ≡ o2 ++ c → o4 ≡ o3 ++ d → o5 ≡ o4 ++ e → o5 ≡ o ++ (a ++ b ++ c ++ d ++ e)
