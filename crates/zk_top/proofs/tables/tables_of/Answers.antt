@@ -1,8 +1,8 @@
 use Rattle.std.proofs.Common.{inr, refl, sym, subst, List}
 use Rattle.zk_top.specs.Parts.{IsTablesRefusal}
 use Rattle.zk_words.specs.declared.status.Status.TheVariants.{BadTables}
-use Rattle.zk_top.proofs.Constraints.{only_failure}
-use Rattle.zk_top.proofs.checking.tables_of.Goals as goal
+use Rattle.zk_top.proofs.FileTables.{only_failure}
+use Rattle.zk_top.proofs.tables.tables_of.Goals as goal
 
 pub returns : goal.returns
 returns c = record {
