@@ -12,6 +12,7 @@ mod tuples;
 
 pub use laws::one_verdict;
 pub use lines::{check_bus, first_broken};
+pub use tuples::TupleList;
 
 #[cfg(test)]
 mod tests;
