@@ -7,6 +7,7 @@ mod parts;
 mod passes;
 mod scans;
 mod senders;
+mod sends;
 mod tables;
 
 pub use checks::Check;
@@ -14,4 +15,5 @@ pub use parts::Part;
 pub use passes::{Asked, Found, Place, pass};
 
 pub use senders::Sender;
+pub use sends::send_rows;
 pub use tables::Table;

@@ -104,6 +104,7 @@ pub fn pass<C: InstanceColumns>(
     requires parts { All (IsPartIn place.now.space (length blocks.old)) parts.old }
     requires room { length asked.now.nodes.now ≤ length blocks.old }
     ensures found { IfOk result (λ found. (ns : List Namespace) (c : Values) (nodes : ℕ → List NodeOf) → IsSameInstance (C.values columns.now) c place.now.space place.now.instance → nodes place.now.space ≡ asked.now.nodes.now → AreChecksOf ns nodes (length asked.now.tables.now) asked.now.checks.now → AreTabled ns c asked.now.tables.now asked.now.checks.now → MatchOption found (AllMet (Says ns c place.now.space place.now.instance) asked.now.limit place.now.rows) (λ f. FailsLeast (Says ns c place.now.space place.now.instance) asked.now.limit place.now.rows f.check f.row)) }
+    ensures inside { IfOk result (λ found. MatchOption found (Unit {0}) (λ f. (f.check < asked.now.limit) × (f.row < place.now.rows))) }
     ensures parts { OnOk result ((ns : List Namespace) (c : Values) → IsSameInstance (C.values columns.now) c place.now.space place.now.instance → AtEach (TakesRows ns c place.now.space place.now.instance place.now.rows asked.now.nodes.now) parts.old parts.new) }
     ensures room { length blocks.new ≡ length blocks.old }
 {

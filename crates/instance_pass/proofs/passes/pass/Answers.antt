@@ -1,4 +1,4 @@
-use Rattle.std.proofs.Common.{ℕ, ◌≡◌, ◌<◌, ◌≤◌, ◌+◌, ◌↔◌, List, Option, Some, MatchOption, length, flat_map, sym, ◌∙◌, subst, refl, arith, rules, All}
+use Rattle.std.proofs.Common.{ℕ, ◌≡◌, ◌<◌, ◌≤◌, ◌+◌, ◌↔◌, List, Option, Some, None, MatchOption, length, flat_map, sym, ◌∙◌, subst, refl, arith, rules, All}
 use Rattle.std.specs.List.{range_with_len}
 use Rattle.pil_ast.specs.Term.{Namespace}
 use Rattle.pil_ast.specs.Columns.{Columns}
@@ -16,6 +16,10 @@ use Rattle.instance_pass.proofs.Passing.{passed-none, passed-found, passed-end}
 use Rattle.instance_pass.proofs.Blocks.{asks-same, rows-taken, parts-inside}
 use Rattle.instance_pass.proofs.passes.pass.Goals as goal
 use Rattle.instance_pass.proofs.passes.pass.Goals.{in-Some, in-None}
+
+spot-later : (n m k : ℕ) (o : Option Found) → m ≤ k → MatchOption o (Unit {0}) (λ f. (f.check < n) × (f.row < m)) → MatchOption o (Unit {0}) (λ f. (f.check < n) × (f.row < k))
+spot-later n m k None l h = tt
+spot-later n m k (Some f) l h = (h.0, let a = h.1 in omega arith)
 
 pub loop-base-preserved : goal.loop-base-preserved
 loop-base-preserved g c =
@@ -36,6 +40,7 @@ loop-base-preserved g c =
     let B : ℕ → ℕ → Type 0 = λ k j. AsksNth c.args.asked.now.tables.now s c.args.asked.now.checks.now k (x j) in
     let limit = c.loop-base.limit in
     let Scanned : Option Found → Type 0 = λ o. MatchOption o (AllMet B limit count) (λ f. FailsLeast B limit count f.check f.row) in
+    let Spot : ℕ → Option Found → Type 0 = λ m o. MatchOption o (Unit {0}) (λ f. (f.check < c.args.asked.now.limit) × (f.row < m)) in
     let scanned : Scanned c.in_ok-f.field-0 = c.in_ok-f.ensures in
     record {
       room = c.run.ensures.room ∙ h.room;
@@ -43,6 +48,15 @@ loop-base-preserved g c =
       limit = elim c.match-branch-2.branch [
         | in-None w ↦ let e = w.limit-is in let a = h.limit in omega arith
         | in-Some w ↦ let f : FailsLeast B limit count w.in-Some.f.check w.in-Some.f.row = subst Scanned w.in-Some.is scanned in let e = w.limit-is in let a = h.limit in let b = f.inside in omega arith
+      ];
+      spot = elim c.match-branch-2.branch [
+        | in-None w ↦ subst (Spot (base + count)) (sym w.found-is) (spot-later c.args.asked.now.limit base (base + count) c.loop-base.found (omega arith) h.spot)
+        | in-Some w ↦
+            let f : FailsLeast B limit count w.in-Some.f.check w.in-Some.f.row = subst Scanned w.in-Some.is scanned in
+            let a = h.limit in
+            let b = f.inside in
+            let d = f.fails.row in
+            subst (Spot (base + count)) (sym w.found-is) (omega arith, omega arith)
       ];
       inside = parts-inside s (length c.run.new.blocks) (λ p. flat_map (λ j. sent_by (x j) p.sender) (range_with_len 0 count)) c.loop-base.parts c.take_parts.new.parts c.in_ok-take_parts.ensures
           (subst (λ m. All (IsPartIn s m) c.loop-base.parts) (sym c.run.ensures.room) h.inside);
@@ -79,3 +93,6 @@ returns-clause-parts g c = λ ns cs same.
     let past = c.loop-base-test.false in
     let e : c.loop-base.base ≡ c.args.place.now.rows = omega arith in
     subst (λ m. AtEach (TakesRows ns cs c.args.place.now.space c.args.place.now.instance m c.args.asked.now.nodes.now) c.args.parts.now c.loop-base.parts) e (c.loop-base.invariant.parts ns cs same)
+
+pub returns-clause-inside : goal.returns-clause-inside
+returns-clause-inside g c = spot-later c.args.asked.now.limit c.loop-base.base c.args.place.now.rows c.loop-base.found c.loop-base.invariant.low c.loop-base.invariant.spot

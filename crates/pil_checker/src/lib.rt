@@ -1,0 +1,4 @@
+//! A checker of a constraint text that is given the tables' instances one at a time.
+#![tactic(auto)]
+
+mod placing;
