@@ -1,2 +1,4 @@
 pub mod Elements
+pub mod Rows
 pub mod Grown
+pub mod Lined

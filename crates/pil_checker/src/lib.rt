@@ -1,4 +1,6 @@
 //! A checker of a constraint text that is given the tables' instances one at a time.
 #![tactic(auto)]
 
+mod lines;
 mod placing;
+mod rights;
