@@ -67,3 +67,10 @@ map-take f xs i x l e = take_more (map f xs) i (f x) (map-long f xs i l) ∙ ap 
 pub ok-both : {X E : Type 0} (r : Result X E) (A B : X → Type 0) (P : Type 0) → ((x : X) → A x → B x → P) → IfOk r A → IfOk r B → OnOk r P
 ok-both (Ok x) A B P f a b = f x a b
 ok-both (Err e) A B P f a b = tt
+
+-- what holds of each element and of one more
+pub more-found : {X : Type 0} (P : ℕ → X → Type 0) (old new : List X) (x : X) → new ≡ old ++ x ∷ [] → ((k : ℕ) (y : X) → slice_get old k ≡ Some y → P k y) → P (length old) x → (k : ℕ) (y : X) → slice_get new k ≡ Some y → P k y
+more-found P old new x e each one k y is = elim (get-push old x y k (ap (λ xs. slice_get xs k) (sym e) ∙ is)) [
+  | inl w ↦ each k y w.1
+  | inr w ↦ subst (P k) w.1 (subst (λ j. P j x) (sym w.0) one)
+]

@@ -2,3 +2,4 @@ pub mod Elements
 pub mod Rows
 pub mod Grown
 pub mod Lined
+pub mod Texts

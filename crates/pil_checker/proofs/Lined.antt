@@ -1,17 +1,23 @@
 -- Checks and parts of lines, of which there come to be more.
-use Rattle.std.proofs.Common.{ℕ, zero, suc, ◌+◌, ◌<◌, ◌≤◌, ◌≡◌, inl, inr, List, [], ◌∷◌, ◌++◌, Some, length, slice_get, refl, sym, ◌∙◌, ap, subst, arith, length-append, All}
+use Rattle.std.proofs.Common.{ℕ, zero, suc, ◌+◌, ◌<◌, ◌≤◌, ◌≡◌, inl, inr, List, [], ◌∷◌, ◌++◌, Some, length, get_or, slice_get, refl, sym, ◌∙◌, ap, subst, arith, length-append, All}
 use Rattle.std.proofs.lemmas.List.Elements.{All-cons}
-use Rattle.pil_ast.specs.Term.{Tuples, Line, Namespace}
+use Rattle.std.proofs.lemmas.Option.{slice_get-get_or, get_or_from_slice_get}
+use Rattle.pil_ast.specs.Term.{Term, Tuples, Line, identity, lookup, bus, Namespace}
+use Rattle.pil_ast.specs.Columns.{Columns}
+use Rattle.pil_ast.specs.Holds.{times}
 use Rattle.pil_program.specs.declared.nodes.Node.{Node}
 use Rattle.pil_program.specs.declared.compiling.Program.{Program}
 use Rattle.instance_pass.specs.declared.senders.Sender.{Sender}
 use Rattle.instance_pass.specs.declared.parts.Part.{Part}
+use Rattle.instance_pass.specs.declared.checks.Check.{Check}
+use Rattle.instance_pass.specs.declared.checks.Check.TheVariants.{Equal, Among, Nothing}
+use Rattle.instance_pass.specs.Checks.{IsCheckOf, IsTabled}
 use Rattle.instance_pass.specs.Senders.{AllCompute, IsSenderOf, IsSenderIn}
-use Rattle.pil_ast.specs.Term.{Term}
+use Rattle.pil_checker.specs.declared.lines.Span.{Span}
 use Rattle.pil_checker.specs.Programs.{nodes_at, Grows}
-use Rattle.pil_checker.specs.Plans.{Extends, HaveParts, AreKnown, AreIdle}
+use Rattle.pil_checker.specs.Plans.{Extends, HaveParts, IsSpanOf, AreKnown, AreIdle}
 use Rattle.pil_checker.proofs.Elements.{get-front, get-last, get-push}
-use Rattle.pil_checker.proofs.Grown.{sender-kept}
+use Rattle.pil_checker.proofs.Grown.{computes-kept, sender-kept}
 
 pub extends-none : {X : Type 0} (xs : List X) → Extends xs xs
 extends-none xs = record { longer = omega arith; keeps = λ k x e. e }
@@ -62,3 +68,29 @@ idle-push old new p e h none = subst AreIdle (sym e) (λ j q is. elim (get-push 
   | inl w ↦ h j q w.1
   | inr w ↦ ap (λ y. y.tuples) (sym w.1) ∙ none
 ])
+
+pub check-kept : (ns : List Namespace) (old new : List Program) (n m : ℕ) (check : Check) (l : Line) → Grows ns old new → n ≤ m → IsCheckOf ns (nodes_at old) n check l → IsCheckOf ns (nodes_at new) m check l
+check-kept ns old new n m (Equal t j k) (identity s a b) grows le h =
+    (h.0, computes-kept ns s (nodes_at old s) (nodes_at new s) 0 a j (grows s) h.1, computes-kept ns s (nodes_at old s) (nodes_at new s) 0 b k (grows s) h.2)
+check-kept ns old new n m (Among x k) (lookup a b) grows le h =
+    ((let l = h.0 in omega arith), sender-kept ns (nodes_at old a.space) (nodes_at new a.space) a x (grows a.space) h.1)
+check-kept ns old new n m Nothing (bus ls rs) grows le h = tt
+check-kept ns old new n m check l grows le h = absurd h
+
+pub tabled-kept : (ns : List Namespace) (nodes : ℕ → List Node) (c : Columns) (old new : List (List (List ℕ))) (check : Check) (l : Line) → Extends old new → IsCheckOf ns nodes (length old) check l → IsTabled ns c old check l → IsTabled ns c new check l
+tabled-kept ns nodes c old new (Equal t j k) l more of h = tt
+tabled-kept ns nodes c old new (Among x k) (lookup a b) more of h = λ t.
+    let is : slice_get old k ≡ Some (get_or old k []) = slice_get-get_or old k [] of.0 in
+    ap (times t) (get_or_from_slice_get new k (get_or old k []) [] (more.keeps k (get_or old k []) is)) ∙ h t
+tabled-kept ns nodes c old new (Among x k) l more of h = tt
+tabled-kept ns nodes c old new Nothing l more of h = tt
+
+pub span-kept : (ns : List Namespace) (old new : List Program) (parts parts' : List Part) (x : Span) (l : Line) → Grows ns old new → Extends parts parts' → IsSpanOf ns (nodes_at old) parts x l → IsSpanOf ns (nodes_at new) parts' x l
+span-kept ns old new parts parts' x (bus ls rs) grows more h = (
+  h.0,
+  h.1,
+  (let a = h.2 in let b = more.longer in omega arith),
+  have-extended ns (nodes_at new) parts parts' x.first ls more (have-grown ns old new parts x.first ls grows h.3),
+  have-extended ns (nodes_at new) parts parts' x.middle rs more (have-grown ns old new parts x.middle rs grows h.4),
+)
+span-kept ns old new parts parts' x l grows more h = tt

@@ -7,9 +7,10 @@ use Rattle.pil_program.specs.declared.nodes.Node.{Node}
 use Rattle.pil_program.specs.Publics.{NoPublic}
 use Rattle.instance_pass.specs.declared.parts.Part.{Part}
 use Rattle.instance_pass.specs.Senders.{IsSenderOf}
-use Rattle.instance_pass.specs.Passes.{AreChecksOf}
+use Rattle.instance_pass.specs.declared.checks.Check.{Check}
+use Rattle.instance_pass.specs.Checks.{IsCheckOf}
 use Rattle.pil_checker.specs.declared.lines.Span.{Span}
-use Rattle.pil_checker.specs.declared.lines.Plan.{Plan}
+use Rattle.pil_checker.specs.declared.plans.Plan.{Plan}
 use Rattle.pil_checker.specs.Programs.{nodes_at, ArePrograms, IsPlain}
 
 -- a list goes on with another's elements
@@ -42,6 +43,15 @@ AreKnown ns nodes parts = (j : ℕ) (p : Part) → slice_get parts j ≡ Some p 
 abbrev pub AreIdle : List Part → Type 0
 AreIdle parts = (j : ℕ) (p : Part) → slice_get parts j ≡ Some p → p.tuples ≡ []
 
--- the spans are those of the first lines of a text
-pub record AreSpans (ns : List Namespace) (nodes : ℕ → List Node) (parts : List Part) (spans : List Span) : Type 0 where
-  pub each : (k : ℕ) (x : Span) → slice_get spans k ≡ Some x → IsSpanOf ns nodes parts x (item_at (lines ns) k)
+-- a plan has the first n lines of a text
+pub record IsPlanUpTo (ns : List Namespace) (plan : Plan) (n : ℕ) : Type 0 where
+  pub programs : ArePrograms ns plan.programs.items
+  pub checks_long : length plan.checks.items ≡ n
+  pub checks : (k : ℕ) (check : Check) → slice_get plan.checks.items k ≡ Some check → IsCheckOf ns (nodes_at plan.programs.items) (length plan.tables.items) check (item_at (lines ns) k)
+  pub spans_long : length plan.spans.items ≡ n
+  pub spans : (k : ℕ) (x : Span) → slice_get plan.spans.items k ≡ Some x → IsSpanOf ns (nodes_at plan.programs.items) plan.parts.items x (item_at (lines ns) k)
+  pub known : AreKnown ns (nodes_at plan.programs.items) plan.parts.items
+
+-- a plan has all lines of a text
+abbrev pub IsPlanOf : List Namespace → Plan → Type 0
+IsPlanOf ns plan = IsPlanUpTo ns plan (length (lines ns))

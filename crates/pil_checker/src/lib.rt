@@ -3,4 +3,5 @@
 
 mod lines;
 mod placing;
+mod plans;
 mod rights;

@@ -1,14 +1,9 @@
 //! The lines of a text as checks and parts.
-ghost use Rattle.std.specs.Prelude.{◌≡◌, ◌+◌, ◌<◌, ℕ, Some, length, map, slice_get, All, IfOk, OnOk};
+ghost use Rattle.std.specs.Prelude.{◌≡◌, ◌+◌, ℕ, length, map, All, IfOk, OnOk};
 ghost use Rattle.pil_ast.specs.Tree.{term, tuples as list_of, line as line_of, namespaces};
 ghost use Rattle.pil_ast.specs.Term.{identity, lookup};
 ghost use Rattle.pil_ast.specs.Columns.{Fits};
-ghost use Rattle.pil_ast.specs.Sound.{IsSound, IsTerm};
-ghost use Rattle.pil_ast.specs.Holds.{lines};
-ghost use Rattle.pil_program.specs.Publics.{NoPublic};
-ghost use Rattle.instance_pass.specs.declared.parts.Part.{Part as PartOf};
 ghost use Rattle.instance_pass.specs.Checks.{IsCheckOf, IsTabled};
-ghost use Rattle.instance_pass.specs.Passes.{AreTabled};
 ghost use Rattle.pil_checker.specs.Programs.{ArePrograms, IsPlacing, IsPlain, nodes_at};
 ghost use Rattle.pil_checker.specs.Plans.{Extends, IsLineOf, IsSpanOf, HaveParts, AreIdle, AreKnown};
 
@@ -27,16 +22,6 @@ pub struct Span {
     pub first: usize,
     pub middle: usize,
     pub end: usize,
-}
-
-/// The lines of a text in order: what each asks of each row, and the parts of each `is`.
-#[derive(Drop)]
-pub struct Plan {
-    pub programs: Vec<Program>,
-    pub checks: Vec<Check>,
-    pub spans: Vec<Span>,
-    pub tables: Vec<Table>,
-    pub parts: Vec<Part>,
 }
 
 /// The check of an identity.
@@ -88,7 +73,7 @@ fn place_lookup<C: InstanceColumns>(
 }
 
 /// The check of a line.
-fn place_check<C: InstanceColumns>(
+pub fn place_check<C: InstanceColumns>(
     alloc: Global,
     pil: &Pil,
     columns: &C,
@@ -143,7 +128,7 @@ fn place_parts(
 }
 
 /// The parts of a line.
-fn place_span(
+pub fn place_span(
     alloc: Global,
     pil: &Pil,
     item: &Item,
