@@ -10,6 +10,7 @@ mod order;
 mod rows;
 mod tuples;
 
+pub use buses::first_difference;
 pub use laws::one_verdict;
 pub use lines::{check_bus, first_broken};
 pub use tuples::TupleList;
