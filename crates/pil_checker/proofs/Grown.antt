@@ -1,9 +1,11 @@
 -- Programs to which steps are put.
-use Rattle.std.proofs.Common.{ℕ, zero, suc, ◌+◌, ◌<◌, ◌≤◌, ◌^◌, ◌≡◌, ◌≢◌, inl, inr, List, [], ◌∷◌, ◌++◌, Some, length, get_or, set, sum_by, slice_get, refl, sym, ◌∙◌, ap, subst, arith, length-set, length-append}
+use Rattle.std.proofs.Common.{ℕ, zero, suc, ◌+◌, ◌<◌, ◌≤◌, ◌^◌, ◌≡◌, ◌≢◌, inl, inr, Bool, true, false, cond, List, [], ◌∷◌, ◌++◌, Some, length, get_or, set, sum_by, slice_get, refl, sym, ◌∙◌, ap, subst, arith, length-set, length-append}
+use Rattle.std.specs.Prelude.{filter}
 use Rattle.std.proofs.lemmas.Bool.{cases_eq}
 use Rattle.std.proofs.lemmas.Option.{slice_get_within}
 use Rattle.std.proofs.lemmas.List.Sums.{sum_by-cons}
-use Rattle.pil_ast.specs.Term.{Term, Tuples, Namespace}
+use Rattle.pil_ast.specs.Term.{Term, Tuples, Line, constant, commit, inter, published, identity, lookup, bus, Namespace, is_line}
+use Rattle.pil_ast.specs.Holds.{lines}
 use Rattle.pil_ast.specs.Sound.{IsSound, signs, signs_of_item}
 use Rattle.pil_program.specs.declared.nodes.Node.{Node}
 use Rattle.pil_program.specs.declared.compiling.Program.{Program}
@@ -49,6 +51,11 @@ pub nodes-found : (programs : List Program) (s : ℕ) (p : Program) → slice_ge
 nodes-found [] s p e = let n : ⊥ = cc in absurd n
 nodes-found (q ∷ qs) zero p e = ap (λ y. y.nodes) (some-same q p e)
 nodes-found (q ∷ qs) (suc s) p e = nodes-found qs s p e
+
+pub nodes-past : (programs : List Program) (s : ℕ) → length programs ≤ s → nodes_at programs s ≡ []
+nodes-past [] s l = refl
+nodes-past (q ∷ qs) zero l = absurd (omega arith)
+nodes-past (q ∷ qs) (suc s) l = nodes-past qs s (omega arith)
 
 nodes-other : (programs : List Program) (s t : ℕ) (p : Program) → t ≢ s → nodes_at (set programs s p) t ≡ nodes_at programs t
 nodes-other [] s t p n = refl
@@ -106,6 +113,31 @@ programs-more ns programs n q long each one s p is = elim (get-push programs q p
 
 abbrev space_signs : Namespace → ℕ
 space_signs n = 1 + sum_by signs_of_item n.items
+
+filter-few : (ls : List Line) → length (filter is_line ls) ≤ sum_by signs_of_item ls
+filter-few [] = omega arith
+filter-few (l ∷ ls) = kept (is_line l) (filter-few ls)
+  where
+    some : (l : Line) → 1 ≤ signs_of_item l
+    some (constant n len) = omega arith
+    some (commit n len) = omega arith
+    some (inter n e) = omega arith
+    some (published n s k r) = omega arith
+    some (identity s a b) = omega arith
+    some (lookup a b) = omega arith
+    some (bus ls rs) = omega arith
+
+    kept : (b : Bool) → length (filter is_line ls) ≤ sum_by signs_of_item ls → length (cond b (l ∷ filter is_line ls) (filter is_line ls)) ≤ sum_by signs_of_item (l ∷ ls)
+    kept true h = omega (arith, sum_by-cons signs_of_item l ls, some l)
+    kept false h = omega (arith, sum_by-cons signs_of_item l ls)
+
+lines-few : (ns : List Namespace) → length (lines ns) ≤ signs ns
+lines-few [] = omega arith
+lines-few (n ∷ ns) = omega (arith, length-append (filter is_line n.items) (lines ns), filter-few n.items, sum_by-cons space_signs n ns, lines-few ns)
+
+-- a text has few lines
+pub few-lines : (ns : List Namespace) → IsSound ns → length (lines ns) ≤ 2 ^ 20
+few-lines ns sound = omega (arith, sound.signs, lines-few ns)
 
 few-signs : (ns : List Namespace) → length ns ≤ signs ns
 few-signs [] = omega arith

@@ -3,3 +3,6 @@ pub mod Rows
 pub mod Grown
 pub mod Lined
 pub mod Texts
+pub mod Compared
+pub mod Spanned
+pub mod Added

@@ -6,6 +6,7 @@ use Rattle.pil_ast.specs.Columns.{Columns}
 use Rattle.pil_ast.specs.Holds.{HoldsAt, by_rows, row_sent, sent, all_sent, times, AsOften, lines}
 use Rattle.pil_ast.specs.Broken.{FailsFirst}
 use Rattle.instance_pass.specs.declared.parts.Part.{Part}
+use Rattle.instance_pass.specs.declared.passes.Found.{Found}
 use Rattle.instance_pass.specs.Senders.{IsSenderOf}
 use Rattle.instance_pass.specs.Checks.{home}
 use Rattle.instance_pass.specs.Passes.{AreTabled}
@@ -79,6 +80,11 @@ AgreesIfBus ns c _ = Unit {0}
 abbrev pub limit_of : Option Spot → ℕ → ℕ
 limit_of None n = n
 limit_of (Some f) n = f.line
+
+-- what is known to be broken after an instance was looked at
+abbrev pub found_after : Option Spot → Option Found → ℕ → Option Spot
+found_after old None i = old
+found_after old (Some f) i = Some (record { line = f.check; instance = i; row = f.row })
 
 -- a checker that another became when it looked at an instance: the tuples of its parts have changed
 pub record IsSameBut (old new : Checker) : Type 0 where

@@ -1,5 +1,5 @@
 //! A checker that is given the instances of the tables one at a time.
-ghost use Rattle.std.specs.Prelude.{◌≡◌, ◌+◌, ◌<◌, ◌≤◌, ℕ, length, slice_index, slice_set, IfOk, OnOk, MatchOption};
+ghost use Rattle.std.specs.Prelude.{◌≡◌, ◌+◌, ◌<◌, ◌≤◌, ◌^◌, ℕ, length, slice_index, slice_set, IfOk, OnOk, MatchOption};
 ghost use Rattle.pil_ast.specs.Tree.{namespaces};
 ghost use Rattle.pil_ast.specs.Columns.{Columns as Values, Fits};
 ghost use Rattle.pil_ast.specs.Sound.{IsSound};
@@ -8,7 +8,7 @@ ghost use Rattle.row_check.specs.Breaks.{IsFirstBroken};
 ghost use Rattle.pil_program.specs.Publics.{NoneIsNamed};
 ghost use Rattle.instance_pass.specs.Passes.{AllMet, FailsLeast, Says, IsSameInstance, AreTabled, TakesRows, AtEach};
 ghost use Rattle.pil_checker.specs.Programs.{nodes_at};
-ghost use Rattle.pil_checker.specs.Standing.{IsBuilt, IsSameBut, StandsFor, SendAlike, AreAllAdded, added, limit_of};
+ghost use Rattle.pil_checker.specs.Standing.{IsBuilt, IsSameBut, StandsFor, SendAlike, AreAllAdded, added, limit_of, found_after};
 
 use crate::differences::difference_of;
 use crate::plans::Plan;
@@ -126,6 +126,26 @@ impl Checker {
         )
     }
 
+    /// Notes that an instance was looked at, and what was found there.
+    fn note(&mut self, found: Option<Found>, space: u32, instance: u32)
+        requires space { space < length self.old.counts.items }
+        requires instance { instance + 1 < 2 ^ 32 }
+        requires row { MatchOption found (Unit {0}) (λ f. f.row < 2 ^ 32) }
+        ensures plan { self.new.plan ≡ self.old.plan }
+        ensures counts { self.new.counts.items ≡ slice_set self.old.counts.items space (instance + 1) }
+        ensures found { self.new.found ≡ found_after self.old.found found instance }
+        ensures room { length self.new.blocks.items ≡ length self.old.blocks.items }
+    {
+        if let Some(f) = found {
+            self.found = Some(Spot {
+                line: f.check,
+                instance,
+                row: f.row as u32,
+            });
+        }
+        self.counts[space as usize] = instance + 1;
+    }
+
     /// Adds an instance of a namespace, which is the next. Of the columns this instance alone is read.
     pub fn add<C: InstanceColumns>(
         &mut self,
@@ -145,14 +165,8 @@ impl Checker {
         ensures counts { OnOk result (self.new.counts.items ≡ slice_set self.old.counts.items space (instance + 1)) }
         ensures stands { OnOk result ((c : Values) → StandsFor (namespaces pil.now) c self.old → IsSameInstance (C.values columns.now) c space instance → StandsFor (namespaces pil.now) c self.new) }
     {
-        if let Some(f) = self.look(alloc, pil, columns, space, instance)? {
-            self.found = Some(Spot {
-                line: f.check,
-                instance,
-                row: f.row as u32,
-            });
-        }
-        self.counts[space as usize] = instance + 1;
+        let found = self.look(alloc, pil, columns, space, instance)?;
+        self.note(found, space, instance);
         Ok(())
     }
 
