@@ -6,3 +6,4 @@ pub mod Texts
 pub mod Compared
 pub mod Spanned
 pub mod Added
+pub mod Looked
