@@ -7,3 +7,4 @@ pub mod Compared
 pub mod Spanned
 pub mod Added
 pub mod Looked
+pub mod Stood

@@ -25,7 +25,7 @@ program-steps ns programs s p nodes w are l at e f =
     subst (λ w. IsProgram w nodes) (sym f) (subst (IsProgram (width (space_at ns s).items)) (sym e) (are.each s p (read-found programs s p (let a = are.long in omega arith) at)).steps)
 
 -- what a pass finds
-abbrev Finds : List Namespace → Columns → ℕ → ℕ → ℕ → ℕ → Option Found → Type 0
+abbrev pub Finds : List Namespace → Columns → ℕ → ℕ → ℕ → ℕ → Option Found → Type 0
 Finds ns c s i limit rows found = MatchOption found (AllMet (Says ns c s i) limit rows) (λ f. FailsLeast (Says ns c s i) limit rows f.check f.row)
 
 pub moved-found : (ns : List Namespace) (d : Columns) (s i : ℕ) (found : Option Found) (nodes_of : ℕ → List Node) (nodes : List Node) (checks checks' : List Check) (tables tables' : List (List (List ℕ))) (limit limit' rows rows' : ℕ)
