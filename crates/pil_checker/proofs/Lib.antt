@@ -8,3 +8,4 @@ pub mod Spanned
 pub mod Added
 pub mod Looked
 pub mod Stood
+pub mod Finished
