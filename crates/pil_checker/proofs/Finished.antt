@@ -18,7 +18,7 @@ use Rattle.instance_pass.specs.Checks.{IsTabled, home}
 use Rattle.pil_checker.specs.declared.checker.Spot.{Spot}
 use Rattle.pil_checker.specs.declared.checker.Checker.{Checker}
 use Rattle.pil_checker.specs.Programs.{nodes_at}
-use Rattle.pil_checker.specs.Standing.{IsBuilt, StandsFor, AreAllAdded, HaveAll, AgreesIfBus, AllUpTo, IsFound, added, counted, sent_upto}
+use Rattle.pil_checker.specs.Standing.{IsBuilt, StandsFor, AreAllAdded, HaveAll, AgreesIfBus, AllUpTo, IsFound, added, counted, sent_upto, limit_of}
 use Rattle.pil_checker.proofs.Rows.{rows-all}
 
 -- the parts have what their lists send
@@ -97,3 +97,11 @@ tabled-alike ns d c tables Nothing l alike h = tt
 -- no instance sends nothing
 pub none-sent : (ns : List Namespace) (c : Columns) (n : ℕ) (a : Tuples) (ts : List (List ℕ)) → ts ≡ [] → n ≡ 0 → ts ≡ sent_upto ns c n a
 none-sent ns c n a ts e f = e ∙ ap (λ m. sent_upto ns c m a) (sym f)
+
+-- the lines before the one that is known to be broken hold of the instances that were added
+pub known-before : (ns : List Namespace) (c : Columns) (k : Checker) → IsBuilt ns k → StandsFor ns c k → (limit_of k.found (length (lines ns)) ≤ length (lines ns)) × AllUpTo ns c (added k) (limit_of k.found (length (lines ns)))
+known-before ns c k built stands = of k.found stands.found
+  where
+    of : (f : Option Spot) → MatchOption f (AllUpTo ns c (added k) (length (lines ns))) (λ f. IsFound ns c (added k) f) → (limit_of f (length (lines ns)) ≤ length (lines ns)) × AllUpTo ns c (added k) (limit_of f (length (lines ns)))
+    of None h = (omega arith, h)
+    of (Some f) h = (let l = h.inside in omega arith, h.before)
