@@ -9,9 +9,7 @@ trap 'rm -rf "$out"' EXIT
 status=0
 for source in *.c; do
     name=${source%.c}
-    riscv64-unknown-elf-gcc -march=rv64im -mabi=lp64 -mcmodel=medany -O2 -ffreestanding -nostdlib \
-        -static -Wall -Wextra -Wno-main -Wl,--build-id=none -Wl,-T,link.ld -Wl,-s \
-        -o "$out/$name.elf" start.S "$source" -lgcc
+    ./cc.sh "$out/$name.elf" "$source"
     if [ "${1:-}" = --write ]; then
         cp "$out/$name.elf" "$built/$name.elf"
     elif ! cmp "$out/$name.elf" "$built/$name.elf"; then

@@ -1,5 +1,5 @@
 -- The rows of a whole run meet Main's lines, and the instances are joined.
-use Rattle.std.proofs.Common.{ℕ, suc, ◌≡◌, ◌≢◌, ◌<◌, ◌≤◌, ◌+◌, ◌-◌, ◌*◌, ◌%◌, ◌^◌, ◌&&◌, inl, inr, ◌⊎◌, Bool, true, false, cond, eqb, List, [], ◌∷◌, map, Option, None, Some, refl, sym, ap, subst, ◌∙◌, arith}
+use Rattle.std.proofs.Common.{ℕ, suc, ◌≡◌, ◌≢◌, ◌<◌, ◌≤◌, ◌+◌, ◌-◌, ◌*◌, ◌%◌, ◌^◌, ◌&&◌, inl, inr, ◌⊎◌, Bool, true, false, cond, eqb, List, [], ◌∷◌, map, Option, None, Some, IfSome, refl, sym, ap, subst, ◌∙◌, arith}
 use Rattle.std.proofs.Math.Nat.{mod-eq_of_lt}
 use Rattle.std.proofs.lemmas.Bool.{cases_lt, eqb-true, and_parts}
 use Rattle.std.proofs.lemmas.Bool.Decides.{nat_tests}
@@ -16,16 +16,18 @@ use Rattle.rv_model.specs.Image.{Img, IsLoadable}
 use Rattle.rv_model.specs.Run.{state_at, step_at, RunsTo}
 use Rattle.rv_model.specs.declared.answer.Public.{Public}
 use Rattle.min_trace.specs.Record.{record_at}
-use Rattle.step_rows.specs.MainRow.{main_row}
+use Rattle.min_trace.specs.Bounds.{IsAct}
+use Rattle.min_trace.specs.declared.record.MemAct.{MemAct}
+use Rattle.step_rows.specs.MainRow.{main_row, of_access}
 use Rattle.air_main.specs.Constants.{MainConstants}
 use Rattle.air_main.specs.Law.{HasMain, Meets, RowConstants}
-use Rattle.air_main.specs.Rows.{HasRow, IsFollowing, StandsAt}
-use Rattle.air_main.specs.Table.{IsMainOf, MainFilled}
+use Rattle.air_main.specs.Rows.{HasRow, IsFollowing, Sends, StandsAt}
+use Rattle.air_main.specs.Table.{IsMainOf, MainFilled, RunSends}
 use Rattle.air_main.proofs.Decoded.{Ranges}
 use Rattle.air_main.proofs.Fields.{row_pc}
 use Rattle.air_main.proofs.Facts.{go_none}
-use Rattle.air_main.proofs.Runs.{Bounds, entry_below, has_row, goes_on, halts_last, next_on, next_off, pc_below}
-use Rattle.air_main.proofs.Complete.{main_complete, main_padding, row_leads, row_stops}
+use Rattle.air_main.proofs.Runs.{Bounds, entry_below, has_row, is_step, goes_on, halts_last, next_on, next_off, pc_below}
+use Rattle.air_main.proofs.Complete.{main_complete, main_padding, main_sends, row_leads, row_stops}
 
 flag_le : (b : Bool) → cond b 1 0 ≤ 1
 flag_le true = omega arith
@@ -92,6 +94,10 @@ nothing a b d e h k = ap (λ z. mul_mod z b) h ∙ (none b e ∙ ap (λ z. mul_m
   where
     none : (b e : ℕ) → mul_mod 0 b ≡ mul_mod 0 e
     none b e = omega arith
+
+result_below : (o : Option MemAct) → IfSome o IsAct → of_access (λ m. m.result) o < 2 ^ 64
+result_below None h = omega arith
+result_below (Some m) h = h.result
 
 module _ (ranges : Ranges) (bounds : Bounds) (ns : List Namespace) (c : Columns) (height : ℕ) (image : Img) (n : ℕ) (public : Public) (has : HasMain ns c height image) (k : MainConstants image height c) (loadable : IsLoadable image) (run : RunsTo image n public) (room : n ≤ c.instances 6 * c.rows 6) (table : IsMainOf c image n) where
   abbrev place : ℕ → ℕ → ℕ
@@ -161,6 +167,10 @@ module _ (ranges : Ranges) (bounds : Bounds) (ns : List Namespace) (c : Columns)
           ends = λ h. end_is h l;
         }
 
+    pub row_sends : place i r < n → Sends ns c i r (record_at image (place i r))
+    row_sends l =
+        main_sends ranges ns c height image i r (place i r) (steps (place i r) l) has (stands l) (result_below (record_at image (place i r)).mem (bounds image loadable (place i r) (is_step image n public loadable run (place i r) l)).mem) (table.row i r hi hr l)
+
     pub meets : Meets ns c i r
     meets = elim (cases_lt (place i r) n) [
       | inl l ↦ main_complete ranges ns c height image i r (place i r) (steps (place i r) l) has (stands l) (table.row i r hi hr l)
@@ -216,3 +226,6 @@ module _ (ranges : Ranges) (bounds : Bounds) (ns : List Namespace) (c : Columns)
 pub main_filled : Ranges → Bounds → MainFilled
 main_filled ranges bounds ns c height image n public has k loadable run room table =
     (meets ranges bounds ns c height image n public has k loadable run room table, joins ns c 6 1 4 5 (Main.go ∷ (Main.go ⊗ Main.nx) ∷ []) (Main.sel ∷ (Main.sel ⊗ Main.pc) ∷ []) k.joints (agree ranges bounds ns c height image n public has k loadable run room table))
+
+pub run_sends : Ranges → Bounds → RunSends
+run_sends ranges bounds ns c height image n public has k loadable run room table i r hi hr l = row_sends ranges bounds ns c height image n public has k loadable run room table i r hi hr l

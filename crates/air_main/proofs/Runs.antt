@@ -69,7 +69,7 @@ module _ (image : Img) (n : ℕ) (public : Public) (loadable : IsLoadable image)
       last : (j n : ℕ) → j + 1 ≡ n → j ≡ n - 1
       last j n e = omega arith
 
-  is_step : (j : ℕ) → j < n → IsStep (step_at image j)
+  pub is_step : (j : ℕ) → j < n → IsStep (step_at image j)
   is_step j l = elim (cases_lt (j + 1) n) [
     | inl h ↦ let t = next_step (step_at image j) (run.on j h) in subst IsStep (sym t.1) tt
     | inr h ↦ subst IsStep (sym (halts_last j (omega arith))) tt

@@ -11,7 +11,7 @@ use Rattle.pil_ast.specs.Holds.{Holds}
 use Rattle.machine_text.specs.Main
 use Rattle.air_main.specs.Constants.{MainConstants}
 use Rattle.air_main.specs.Law.{HasMain, Meets}
-use Rattle.air_main.specs.Rows.{HasRow, IsRow}
+use Rattle.air_main.specs.Rows.{HasRow, IsRow, Sends}
 
 -- Main's instances one after the other have the rows of the run's first steps, and then rows of zeros
 pub record IsMainOf (c : Columns) (image : Img) (steps : ℕ) : Type 0 where
@@ -28,3 +28,10 @@ MainFilled =
     (ns : List Namespace) (c : Columns) (height : ℕ) (image : Img) (n : ℕ) (public : Public) → HasMain ns c height image → MainConstants image height c → IsLoadable image → RunsTo image n public
     → n ≤ c.instances Main.here * c.rows Main.here → IsMainOf c image n
     → ((i r : ℕ) → i < c.instances Main.here → r < c.rows Main.here → Meets ns c i r) × Holds ns c (bus (Main.leaves ∷ []) (Main.enters ∷ []))
+
+-- Under the same suppositions the row of a step sends the step's operation, its access and what it writes to a register.
+abbrev pub RunSends : Type 0
+RunSends =
+    (ns : List Namespace) (c : Columns) (height : ℕ) (image : Img) (n : ℕ) (public : Public) → HasMain ns c height image → MainConstants image height c → IsLoadable image → RunsTo image n public
+    → n ≤ c.instances Main.here * c.rows Main.here → IsMainOf c image n
+    → (i r : ℕ) → i < c.instances Main.here → r < c.rows Main.here → i * c.rows Main.here + r < n → Sends ns c i r (record_at image (i * c.rows Main.here + r))

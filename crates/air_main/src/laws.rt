@@ -3,7 +3,7 @@ ghost use Rattle.air_main.specs.Constants.{MainConstantsLaw, RomConstantsLaw};
 ghost use Rattle.air_main.specs.Law.{EndsLaw, FollowsLaw, MainExact, ProfilesLaw, RowLaw};
 ghost use Rattle.air_main.specs.Rows.{MainComplete, MainPadding, MainSends};
 ghost use Rattle.air_main.specs.Selected.{SelectedLaw};
-ghost use Rattle.air_main.specs.Table.{MainFilled, RunHasRows};
+ghost use Rattle.air_main.specs.Table.{MainFilled, RunHasRows, RunSends};
 
 use min_trace::bounds_law;
 use rv_word::decoding_law;
@@ -44,6 +44,9 @@ pub fn main_rows()
 
     // The rows meet the lines, line 7 too, which joins the instances; the other buses go to other namespaces.
     ensures filled { MainFilled }
+
+    // What each step's row sends to other namespaces.
+    ensures sends { RunSends }
 {
     decoding_law();
     bounds_law();

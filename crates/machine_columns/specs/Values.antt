@@ -1,5 +1,5 @@
 -- The values of which the machine's text speaks, of an image and tables: the tables' columns behind the constant ones.
-use Rattle.std.specs.Prelude.{ℕ, ◌-◌, ◌&&◌, nat_lt, List, length, if◌then◌else◌}
+use Rattle.std.specs.Prelude.{ℕ, ◌-◌, ◌&&◌, nat_lt, if◌then◌else◌}
 use Rattle.gold.specs.Shapes.{counts_from}
 use Rattle.gold.specs.declared.instances.Witness.{Witness}
 use Rattle.rv_model.specs.Image.{Img}

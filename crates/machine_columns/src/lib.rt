@@ -2,5 +2,8 @@
 #![tactic(auto)]
 
 mod columns;
+mod laws;
+mod place;
 
 pub use columns::MachineColumns;
+pub use laws::{columns_laws, publics_laws};

@@ -40,6 +40,7 @@ pub record ConstantsLaws : Type 0 where
   pub initial : InitConstantsLaw
   pub out : OutConstantsLaw
   pub profiles : ProfilesLaw
+  pub stands : MachineHas
 
 pub record AirLaws : Type 0 where
   pub binary : Binary.SendsOperations

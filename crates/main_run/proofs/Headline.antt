@@ -1,5 +1,5 @@
 -- The run and its public.
-use Rattle.std.proofs.Common.{ℕ, zero, suc, Bool, ◌≡◌, ◌≢◌, ◌<◌, ◌≤◌, ◌+◌, ◌-◌, ◌*◌, ◌^◌, ◌⊎◌, inl, inr, List, ◌++◌, flat_map, refl, sym, ap, subst, arith, ⊎_elim, ◌∙◌}
+use Rattle.std.proofs.Common.{ℕ, zero, suc, ◌≡◌, ◌≢◌, ◌<◌, ◌≤◌, ◌+◌, ◌-◌, ◌*◌, ◌^◌, ◌⊎◌, inl, inr, List, ◌++◌, flat_map, refl, sym, ap, subst, arith, ⊎_elim}
 use Rattle.std.specs.List.{range_with_len}
 use Rattle.std.specs.Int.{to_le_bytes, w64}
 use Rattle.std.proofs.lemmas.Bool.{cases_lt}
@@ -11,7 +11,7 @@ use Rattle.rv_model.specs.Image.{Img}
 use Rattle.rv_model.specs.State.{State, Halt, reg}
 use Rattle.rv_model.specs.Run.{state_at, step_at, public_of, window}
 use Rattle.rv_model.specs.declared.answer.Public.{Public}
-use Rattle.air_main.specs.Step.{joined}
+use Rattle.air_main.specs.Step.{Limbs, joined}
 use Rattle.air_mem.specs.Access.{Access}
 use Rattle.air_mem.specs.Constants.{out_key}
 use Rattle.air_mem.specs.Lists.{final_read}
@@ -22,7 +22,7 @@ use Rattle.main_run.specs.Headline.{told, PublicsAreOuts, Headline, HeadlineLaw}
 use Rattle.main_run.proofs.Place.{places_same}
 use Rattle.main_run.proofs.Below.{MainLaws, StartLaws}
 use Rattle.main_run.proofs.Chain.{told as told_of}
-use Rattle.main_run.proofs.Leaves.{later, read_is}
+use Rattle.main_run.proofs.Leaves.{later, read_is, same_limbs}
 use Rattle.main_run.proofs.Run.{halt_law}
 
 abbrev public_with : ℕ → List ℕ → Public
@@ -45,9 +45,6 @@ same_pieces f g (suc n) a b h =
 
     both : (x y xs ys : List ℕ) → x ≡ y → xs ≡ ys → x ++ xs ≡ y ++ ys
     both x y xs ys e h = cc
-
-joined_same : (a b x y : ℕ) → a ≡ x → b ≡ y → joined a b ≡ joined x y
-joined_same a b x y e h = omega arith
 
 before_end : (t g last : ℕ) → g < last → t ≤ 8 * g + 5 → t < 8 * last + 1
 before_end t g last h l = omega arith
@@ -92,11 +89,24 @@ module _ (laws : MainLaws) (starts : StartLaws) (ns : List Namespace) (c : Colum
       at t g e = omega arith
 
   -- a final read has the value of the last state
-  final_is : (k key v : ℕ) → k < 33 → out_key k ≡ key → Leaves xs key (8 * h.last + 1) v → joined (public_value ns c (2 * k)) (public_value ns c (2 * k + 1)) ≡ v
-  final_is k key v l e keeps =
+  final_limbs : (k key v : ℕ) → k < 33 → out_key k ≡ key → Leaves xs key (8 * h.last + 1) v → Limbs (public_value ns c (2 * k)) (public_value ns c (2 * k + 1)) v
+  final_limbs k key v l e keeps =
       let low = h.below in
       let reads = read_is xs a.bus.distinct (final_read c k) v (a.bus.right _ (a.bus.ends k l) refl) (subst (λ z. Leaves xs z 34359738368 v) (sym e) (later xs key (8 * h.last + 1) 34359738368 v (omega arith) (λ w m o _ _. done w (a.bus.writes w m o)) keeps)) in
-      joined_same _ _ _ _ (outs k l).0 (outs k l).1 ∙ sym reads.is
+      same_limbs _ _ _ _ v (outs k l).0 (outs k l).1 reads
+
+  final_is : (k key v : ℕ) → k < 33 → out_key k ≡ key → Leaves xs key (8 * h.last + 1) v → joined (public_value ns c (2 * k)) (public_value ns c (2 * k + 1)) ≡ v
+  final_is k key v l e keeps = sym (final_limbs k key v l e keeps).is
+
+  two_limbs : (a b v : ℕ) → Limbs a b v → (a < 2 ^ 32) × (b < 2 ^ 32)
+  two_limbs a b v l = (l.lo_below, l.hi_below)
+
+  key_of : (k : ℕ) → k < 32 → out_key (suc k) ≡ 167772160 + k
+  key_of k l = grind (arith, nat_tests)
+
+  all_limbs : (k : ℕ) → k < 33 → (public_value ns c (2 * k) < 2 ^ 32) × (public_value ns c (2 * k + 1) < 2 ^ 32)
+  all_limbs zero l = two_limbs _ _ _ (final_limbs 0 536870922 _ l refl (h.fact.keeps.registers 10 (omega arith)))
+  all_limbs (suc k) l = two_limbs _ _ _ (final_limbs (suc k) (167772160 + k) _ l (key_of k (omega arith)) (h.fact.keeps.words (167772160 + k) (omega arith)))
 
   exit : joined (public_value ns c 0) (public_value ns c 1) ≡ reg s 10
   exit = final_is 0 536870922 _ (omega arith) refl (h.fact.keeps.registers 10 (omega arith))
@@ -132,6 +142,7 @@ module _ (laws : MainLaws) (starts : StartLaws) (ns : List Namespace) (c : Colum
         let q = places_same c j f.instance f.row i r f.place place in
         subst (λ z. c.at 6 z 8 r ≢ 0) q.0 (subst (λ z. c.at 6 f.instance 8 z ≢ 0) q.1 f.selected);
     others = λ j i r place l. h.rest j i r (omega arith) place;
+    limbs = all_limbs;
   }
     where
       less : (k : ℕ) → k ≡ (k + 1) - 1

@@ -15,7 +15,7 @@ use Rattle.main_run.proofs.Place.{places_same}
 none_limbs : (a b v : ℕ) → a ≡ 0 → b ≡ 0 → v ≡ 0 → Limbs a b v
 none_limbs a b v e h k = record { lo_below = omega arith; hi_below = omega arith; is = omega arith }
 
-same_limbs : (a b x y v : ℕ) → a ≡ x → b ≡ y → Limbs x y v → Limbs a b v
+pub same_limbs : (a b x y v : ℕ) → a ≡ x → b ≡ y → Limbs x y v → Limbs a b v
 same_limbs a b x y v e h l = subst (λ z. Limbs z b v) (sym e) (subst (λ z. Limbs x z v) (sym h) l)
 
 same_times : (a b : ℕ) → a ≤ b → b ≤ a → a ≡ b

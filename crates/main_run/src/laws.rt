@@ -4,6 +4,7 @@ ghost use Rattle.main_run.specs.Chain.{ChainLaw, RestLaw};
 ghost use Rattle.main_run.specs.Exact.{NoWrapLaw};
 ghost use Rattle.main_run.specs.Headline.{HeadlineLaw};
 ghost use Rattle.main_run.specs.Run.{BeginLaw, HaltLaw, StepsLaw};
+ghost use Rattle.main_run.specs.Stands.{StandsLaw};
 ghost use Rattle.main_run.specs.Whole.{MachineLaw, RowsLaw};
 
 use air_align::align_laws;
@@ -73,4 +74,14 @@ pub fn machine_laws()
     memory_text();
     words_law();
     initial_law();
+}
+
+/// Columns with the machine's constants are what the laws of each air suppose.
+pub fn machine_stands()
+    ensures { StandsLaw }
+{
+    main_laws();
+    main_constants();
+    memory_constants();
+    memory_text();
 }

@@ -7,4 +7,4 @@
 
 mod laws;
 
-pub use laws::{chain_laws, headline_laws, machine_laws, run_laws};
+pub use laws::{chain_laws, headline_laws, machine_laws, machine_stands, run_laws};

@@ -3,6 +3,9 @@
 
 mod judgement;
 mod judging;
+mod laws;
+mod told;
 
 pub use judgement::Judgement;
 pub use judging::verdict;
+pub use laws::{judgement_laws, soundness_laws};

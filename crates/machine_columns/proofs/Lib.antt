@@ -1,0 +1,9 @@
+mod Cases
+mod Small
+mod Rows
+mod Counts
+mod Values
+mod Machine
+mod Found
+mod Tables
+mod Publics

@@ -1,0 +1,10 @@
+mod Below
+mod Pieces
+mod Cut
+mod Shape
+mod Run
+mod Accept
+mod Published
+mod Small
+mod SmallArith
+mod SmallRun

@@ -1,0 +1,9 @@
+mod Below
+mod Lists
+mod Known
+mod Held
+mod Airs
+mod Slots
+mod Main
+mod Mem
+mod Whole

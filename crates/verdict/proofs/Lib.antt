@@ -1,0 +1,4 @@
+mod Count
+mod Sound
+mod Bytes
+mod Found
