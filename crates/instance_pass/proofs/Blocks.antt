@@ -1,7 +1,7 @@
 -- What the values of a block say of the lines and the parts.
-use Rattle.std.proofs.Common.{ℕ, ◌+◌, ◌<◌, ◌≡◌, ◌≢◌, ◌↔◌, List, ◌++◌, Some, length, get_or, slice_get, flat_map, sym, ◌∙◌, ap, subst, arith, append_assoc, All}
+use Rattle.std.proofs.Common.{ℕ, ◌+◌, ◌<◌, ◌≡◌, ◌↔◌, List, ◌++◌, length, get_or, flat_map, sym, ◌∙◌, ap, subst, arith, append_assoc, All}
 use Rattle.std.specs.List.{range_with_len}
-use Rattle.std.proofs.lemmas.Option.{slice_get-get_or, slice_get_within}
+use Rattle.std.proofs.lemmas.Option.{slice_get-get_or}
 use Rattle.pil_ast.specs.Term.{Tuples, Namespace, item_at}
 use Rattle.pil_ast.specs.Columns.{Columns}
 use Rattle.pil_ast.specs.Holds.{row_sent, lines}
@@ -15,7 +15,6 @@ use Rattle.instance_pass.specs.declared.senders.Sender.{Sender}
 use Rattle.instance_pass.specs.Senders.{sent_by, IsSenderIn, IsSenderOf}
 use Rattle.instance_pass.specs.Parts.{IsPartIn, Takes}
 use Rattle.instance_pass.specs.Passes.{AsksNth, Says, AreChecksOf, AreTabled, TakesRows, AtEach}
-use Rattle.instance_pass.proofs.Elements.{some-same, found-all}
 use Rattle.instance_pass.proofs.Reading.{asked-says, says-asked, sent-is}
 
 -- the checks of lines ask what the lines say

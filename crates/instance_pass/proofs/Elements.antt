@@ -1,5 +1,5 @@
 -- Elements at their places, and parts that are changed one after the other.
-use Rattle.std.proofs.Common.{ℕ, zero, suc, ◌+◌, ◌<◌, ◌≤◌, ◌≡◌, ◌≢◌, inl, inr, List, [], ◌∷◌, Some, None, length, get_or, set, slice_get, refl, sym, ◌∙◌, ap, subst, arith, length-set, All}
+use Rattle.std.proofs.Common.{ℕ, zero, suc, ◌+◌, ◌<◌, ◌≤◌, ◌≡◌, ◌≢◌, inl, inr, List, [], ◌∷◌, Some, length, get_or, set, slice_get, refl, sym, ◌∙◌, ap, subst, arith, length-set, All}
 use Rattle.std.proofs.lemmas.Bool.{cases_eq}
 use Rattle.std.proofs.lemmas.Option.{slice_get-get_or, slice_get_within}
 use Rattle.instance_pass.specs.declared.parts.Part.{Part}

@@ -1,5 +1,5 @@
 -- A pass over the rows of an instance, block by block.
-use Rattle.std.proofs.Common.{ℕ, ◌+◌, ◌-◌, ◌<◌, ◌≤◌, ◌≡◌, ◌↔◌, inl, inr, Option, Some, None, refl, sym, ◌∙◌, subst, arith, MatchOption}
+use Rattle.std.proofs.Common.{ℕ, ◌+◌, ◌-◌, ◌<◌, ◌≤◌, ◌≡◌, ◌↔◌, inl, inr, Option, Some, None, refl, sym, subst, arith, MatchOption}
 use Rattle.std.proofs.lemmas.Bool.{cases_lt}
 use Rattle.instance_pass.specs.declared.passes.Found.{Found}
 use Rattle.instance_pass.specs.Passes.{AllMet, FailsIn, FailsLeast, IsPassed}

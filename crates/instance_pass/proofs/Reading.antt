@@ -1,17 +1,16 @@
 -- What the values of steps say of a row.
-use Rattle.std.proofs.Common.{ℕ, zero, suc, ◌+◌, ◌<◌, ◌≡◌, ◌≢◌, eqb, not, Bool, true, false, cond, List, [], ◌∷◌, Option, Some, None, length, get_or, map, slice_get, refl, sym, ◌∙◌, ap, subst, arith}
-use Rattle.gold.specs.Field.{add_mod, sub_mod, mul_mod, neg_mod}
-use Rattle.pil_ast.specs.Term.{Term, num, Tuples, Line, constant, commit, inter, published, identity, lookup, bus, Namespace}
+use Rattle.std.proofs.Common.{ℕ, ◌<◌, ◌≡◌, eqb, not, Bool, true, false, cond, List, [], ◌∷◌, Option, Some, None, length, get_or, map, refl, sym, ◌∙◌, ap, subst, arith}
+use Rattle.pil_ast.specs.Term.{Term, Tuples, Line, identity, lookup, bus, Namespace}
 use Rattle.pil_ast.specs.Columns.{Columns}
-use Rattle.pil_ast.specs.Value.{row_after, ahead, later, value_in}
-use Rattle.pil_ast.specs.Holds.{HoldsAt, selected, tuple, row_sent, times, sent}
+use Rattle.pil_ast.specs.Value.{row_after, value_in}
+use Rattle.pil_ast.specs.Holds.{HoldsAt, selected, tuple, row_sent, times}
 use Rattle.pil_program.specs.declared.nodes.Node.{Node}
 use Rattle.pil_program.specs.declared.nodes.Node.TheVariants.{Number, Column, Neg, Add, Sub, Mul}
 use Rattle.pil_program.specs.Program.{IsStep, IsProgram, step_value, cell, AreValues, Computes}
 use Rattle.instance_pass.specs.declared.senders.Sender.{Sender}
 use Rattle.instance_pass.specs.declared.checks.Check.{Check}
 use Rattle.instance_pass.specs.declared.checks.Check.TheVariants.{Equal, Among, Nothing}
-use Rattle.instance_pass.specs.Senders.{sent_by, StandsIn, AllCompute, selector, IsSenderOf}
+use Rattle.instance_pass.specs.Senders.{sent_by, AllCompute, selector, IsSenderOf}
 use Rattle.instance_pass.specs.Checks.{Asks, IsCheckOf, IsTabled, home}
 use Rattle.instance_pass.specs.Passes.{IsSameInstance}
 

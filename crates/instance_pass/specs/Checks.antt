@@ -1,5 +1,5 @@
 -- What a check asks of the values of a row, and which line it is of.
-use Rattle.std.specs.Prelude.{ℕ, ◌<◌, ◌≡◌, ◌≢◌, List, [], slice_index_or}
+use Rattle.std.specs.Prelude.{ℕ, ◌<◌, ◌≡◌, List, [], slice_index_or}
 use Rattle.pil_ast.specs.Term.{Line, identity, lookup, bus, Namespace}
 use Rattle.pil_ast.specs.Columns.{Columns}
 use Rattle.pil_ast.specs.Holds.{times, sent}

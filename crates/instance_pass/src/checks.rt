@@ -11,7 +11,10 @@ pub enum Check {
         right: usize,
     },
     /// The tuple of a selected row stands in the table with this number.
-    Among { left: Sender, table: usize },
+    Among {
+        left: Sender,
+        table: usize,
+    },
     /// Nothing: an `is` speaks of all rows at once.
     Nothing,
 }

@@ -13,7 +13,6 @@ mod tables;
 pub use checks::Check;
 pub use parts::Part;
 pub use passes::{Asked, Found, Place, pass};
-
 pub use senders::Sender;
 pub use sends::send_rows;
 pub use tables::Table;

@@ -59,7 +59,14 @@ fn scan(
     ensures { IfOk result (λ found. MatchOption found (AllMet (λ k j. AsksNth asked.now.tables.now space asked.now.checks.now k (at_lane blocks.now j)) limit count) (λ f. FailsLeast (λ k j. AsksNth asked.now.tables.now space asked.now.checks.now k (at_lane blocks.now j)) limit count f.check f.row)) }
 {
     for check in 0..limit {
-        match first_failing(alloc, &asked.checks[check], asked.tables, space, blocks, count)? {
+        match first_failing(
+            alloc,
+            &asked.checks[check],
+            asked.tables,
+            space,
+            blocks,
+            count,
+        )? {
             Some(row) => return Ok(Some(Found { check, row })),
             None => {}
         }

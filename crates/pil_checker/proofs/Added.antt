@@ -1,26 +1,23 @@
 -- One more instance of a namespace.
-use Rattle.std.proofs.Common.{ℕ, ◌+◌, ◌<◌, ◌≤◌, ◌≡◌, ◌≢◌, inl, inr, List, [], ◌∷◌, ◌++◌, Option, Some, None, length, set, slice_get, slice_index, flat_map, refl, sym, ◌∙◌, ap, subst, arith, MatchOption, All}
+use Rattle.std.proofs.Common.{ℕ, ◌+◌, ◌<◌, ◌≤◌, ◌≡◌, ◌≢◌, inl, inr, List, [], ◌++◌, Option, Some, None, length, set, slice_index, flat_map, sym, ◌∙◌, ap, subst, arith, MatchOption}
 use Rattle.std.specs.List.{range_with_len}
 use Rattle.std.proofs.lemmas.Bool.{cases_eq, cases_lt}
 use Rattle.std.proofs.lemmas.List.{get_or-set_same, get_or-set_other}
 use Rattle.pil_ast.specs.Term.{Tuples, Line, identity, lookup, bus, Namespace, item_at}
 use Rattle.pil_ast.specs.Columns.{Columns}
 use Rattle.pil_ast.specs.Holds.{HoldsAt, by_rows, row_sent, lines}
-use Rattle.pil_ast.specs.Broken.{FailsFirst, IsBefore}
+use Rattle.pil_ast.specs.Broken.{IsBefore}
 use Rattle.pil_program.specs.declared.nodes.Node.{Node}
 use Rattle.instance_pass.specs.declared.checks.Check.{Check}
 use Rattle.instance_pass.specs.declared.checks.Check.TheVariants.{Equal, Among, Nothing}
 use Rattle.instance_pass.specs.declared.parts.Part.{Part}
 use Rattle.instance_pass.specs.declared.passes.Found.{Found}
-use Rattle.instance_pass.specs.Senders.{IsSenderIn, IsSenderOf}
+use Rattle.instance_pass.specs.Senders.{IsSenderOf}
 use Rattle.instance_pass.specs.Checks.{IsCheckIn, IsCheckOf, home}
 use Rattle.instance_pass.specs.Parts.{IsPartIn}
-use Rattle.instance_pass.specs.Passes.{AllMet, FailsLeast, Says, TakesRows, AtEach}
+use Rattle.instance_pass.specs.Passes.{AllMet, FailsLeast, Says, TakesRows}
 use Rattle.pil_checker.specs.declared.checker.Spot.{Spot}
-use Rattle.pil_checker.specs.declared.lines.Span.{Span}
-use Rattle.pil_checker.specs.Programs.{nodes_at}
-use Rattle.pil_checker.specs.Plans.{HaveParts, IsSpanOf, AreKnown}
-use Rattle.pil_checker.specs.Standing.{counted, sent_upto, AllUpTo, IsFound, limit_of, found_after}
+use Rattle.pil_checker.specs.Standing.{sent_upto, AllUpTo, IsFound, limit_of, found_after}
 use Rattle.pil_checker.proofs.Rows.{rows-more}
 use Rattle.pil_checker.proofs.Lined.{sender-inside}
 
@@ -116,9 +113,12 @@ check-inside ns nodes n m s (Equal t j k) (identity u a b) h room = λ e.
     let same : u ≡ s = sym h.0 ∙ e in
     let long : length (nodes u) ≤ m = subst (λ z. length (nodes z) ≤ m) (sym same) room in
     (let l = h.1.inside in omega arith, let l = h.2.inside in omega arith)
-check-inside ns nodes n m s (Among x k) (lookup a b) h room = (h.0, λ e.
-    let same : a.space ≡ s = sym h.1.space ∙ e in
-    sender-inside ns (nodes a.space) a x m h.1 (subst (λ z. length (nodes z) ≤ m) (sym same) room))
+check-inside ns nodes n m s (Among x k) (lookup a b) h room = (
+  h.0,
+  λ e.
+      let same : a.space ≡ s = sym h.1.space ∙ e in
+      sender-inside ns (nodes a.space) a x m h.1 (subst (λ z. length (nodes z) ≤ m) (sym same) room),
+)
 check-inside ns nodes n m s Nothing (bus ls rs) h room = tt
 check-inside ns nodes n m s check l h room = absurd h
 

@@ -1,23 +1,20 @@
 -- A checker to which all instances were added.
-use Rattle.std.proofs.Common.{ℕ, ◌+◌, ◌-◌, ◌<◌, ◌≤◌, ◌≡◌, List, [], Option, Some, None, length, get_or, slice_get, slice_index, refl, sym, ◌∙◌, ap, subst, arith, MatchOption}
+use Rattle.std.proofs.Common.{ℕ, ◌+◌, ◌-◌, ◌<◌, ◌≤◌, ◌≡◌, List, [], Option, Some, None, length, get_or, slice_get, refl, sym, ◌∙◌, ap, subst, arith, MatchOption}
 use Rattle.std.proofs.lemmas.Option.{slice_get-get_or}
 use Rattle.pil_ast.specs.Term.{Tuples, Line, num, constant, commit, inter, published, identity, lookup, bus, Namespace, item_at}
 use Rattle.pil_ast.specs.Columns.{Columns}
 use Rattle.pil_ast.specs.Sound.{IsItem, IsSound}
-use Rattle.pil_ast.specs.Holds.{HoldsAt, Holds, AllHold, by_rows, row_sent, sent, times, lines}
+use Rattle.pil_ast.specs.Holds.{HoldsAt, Holds, sent, times, lines}
 use Rattle.pil_ast.specs.Broken.{FailsFirst, BreaksAt}
 use Rattle.row_check.specs.declared.broken.Broken.{Broken}
 use Rattle.row_check.specs.declared.broken.Broken.TheVariants.{At, Counts}
-use Rattle.row_check.specs.Breaks.{IsBreak, IsBreakOf, IsFirstBroken, line_of}
+use Rattle.row_check.specs.Breaks.{IsBreakOf, IsFirstBroken, line_of}
 use Rattle.pil_laws.proofs.Lines.{item-found, line-found}
 use Rattle.instance_pass.specs.declared.checks.Check.{Check}
 use Rattle.instance_pass.specs.declared.checks.Check.TheVariants.{Equal, Among, Nothing}
-use Rattle.instance_pass.specs.declared.parts.Part.{Part}
-use Rattle.instance_pass.specs.Senders.{IsSenderOf}
 use Rattle.instance_pass.specs.Checks.{IsTabled, home}
 use Rattle.pil_checker.specs.declared.checker.Spot.{Spot}
 use Rattle.pil_checker.specs.declared.checker.Checker.{Checker}
-use Rattle.pil_checker.specs.Programs.{nodes_at}
 use Rattle.pil_checker.specs.Standing.{IsBuilt, StandsFor, AreAllAdded, HaveAll, AgreesIfBus, AllUpTo, IsFound, added, counted, sent_upto, limit_of}
 use Rattle.pil_checker.proofs.Rows.{rows-all}
 

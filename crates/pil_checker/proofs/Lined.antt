@@ -1,5 +1,5 @@
 -- Checks and parts of lines, of which there come to be more.
-use Rattle.std.proofs.Common.{ℕ, zero, suc, ◌+◌, ◌<◌, ◌≤◌, ◌≡◌, inl, inr, List, [], ◌∷◌, ◌++◌, Some, length, get_or, slice_get, refl, sym, ◌∙◌, ap, subst, arith, length-append, All}
+use Rattle.std.proofs.Common.{ℕ, ◌+◌, ◌<◌, ◌≤◌, ◌≡◌, inl, inr, List, [], ◌∷◌, ◌++◌, Some, length, get_or, slice_get, sym, ◌∙◌, ap, subst, arith, length-append, All}
 use Rattle.std.proofs.lemmas.List.Elements.{All-cons}
 use Rattle.std.proofs.lemmas.Option.{slice_get-get_or, get_or_from_slice_get}
 use Rattle.pil_ast.specs.Term.{Term, Tuples, Line, identity, lookup, bus, Namespace}
@@ -16,7 +16,7 @@ use Rattle.instance_pass.specs.Senders.{AllCompute, IsSenderOf, IsSenderIn}
 use Rattle.pil_checker.specs.declared.lines.Span.{Span}
 use Rattle.pil_checker.specs.Programs.{nodes_at, Grows}
 use Rattle.pil_checker.specs.Plans.{Extends, HaveParts, IsSpanOf, AreKnown, AreIdle}
-use Rattle.pil_checker.proofs.Elements.{get-front, get-last, get-push}
+use Rattle.pil_checker.proofs.Elements.{get-front, get-push}
 use Rattle.pil_checker.proofs.Grown.{computes-kept, sender-kept}
 
 pub extends-none : {X : Type 0} (xs : List X) → Extends xs xs

@@ -1,5 +1,5 @@
 -- What a pass says, in the words of a plan.
-use Rattle.std.proofs.Common.{ℕ, ◌<◌, ◌≤◌, ◌≡◌, List, [], ◌++◌, Option, Some, length, get_or, take, drop, slice_get, sym, ◌∙◌, ap, subst, arith, MatchOption}
+use Rattle.std.proofs.Common.{ℕ, ◌<◌, ◌≡◌, List, ◌++◌, Option, length, get_or, take, drop, sym, ◌∙◌, ap, subst, arith, MatchOption}
 use Rattle.std.specs.declared.result.Result.{Result}
 use Rattle.std.specs.declared.result.Result.TheVariants.{Ok, Err}
 use Rattle.std.specs.Result.{OnOk}

@@ -1,5 +1,5 @@
 -- The span of an `is` that a plan has.
-use Rattle.std.proofs.Common.{ℕ, ◌≡◌, ◌+◌, ◌≤◌, ◌<◌, List, Some, slice_get, length, sym, ◌∙◌, ap, subst, arith}
+use Rattle.std.proofs.Common.{ℕ, ◌≡◌, ◌+◌, ◌≤◌, List, Some, slice_get, length, subst}
 use Rattle.pil_ast.specs.Term.{Tuples, bus, Namespace, item_at}
 use Rattle.pil_ast.specs.Holds.{lines}
 use Rattle.instance_pass.specs.declared.checks.Check.{Check}

@@ -1,5 +1,5 @@
 -- A checker to which an instance was added.
-use Rattle.std.proofs.Common.{ℕ, ◌+◌, ◌<◌, ◌≤◌, ◌≡◌, ◌≢◌, List, [], ◌∷◌, Option, Some, None, length, get_or, set, slice_get, slice_index, refl, sym, ◌∙◌, ap, subst, arith, length-set, MatchOption}
+use Rattle.std.proofs.Common.{ℕ, ◌+◌, ◌<◌, ◌≤◌, ◌≡◌, ◌≢◌, List, [], ◌∷◌, Option, Some, None, length, get_or, set, slice_get, slice_index, sym, ◌∙◌, ap, subst, arith, length-set, MatchOption}
 use Rattle.std.proofs.lemmas.Option.{slice_get-get_or, slice_get_within}
 use Rattle.pil_ast.specs.Term.{Tuples, Line, bus, Namespace, item_at}
 use Rattle.pil_ast.specs.Columns.{Columns}
@@ -8,7 +8,7 @@ use Rattle.pil_program.specs.declared.nodes.Node.{Node}
 use Rattle.instance_pass.specs.declared.parts.Part.{Part}
 use Rattle.instance_pass.specs.declared.passes.Found.{Found}
 use Rattle.instance_pass.specs.Senders.{IsSenderOf}
-use Rattle.instance_pass.specs.Passes.{AllMet, FailsLeast, Says, IsSameInstance, AreTabled, TakesRows, AtEach}
+use Rattle.instance_pass.specs.Passes.{AreTabled, TakesRows, AtEach}
 use Rattle.pil_checker.specs.declared.checker.Spot.{Spot}
 use Rattle.pil_checker.specs.declared.checker.Checker.{Checker}
 use Rattle.pil_checker.specs.declared.lines.Span.{Span}

@@ -1,9 +1,9 @@
 -- The lines of a text that names no public.
-use Rattle.std.proofs.Common.{ℕ, zero, suc, ◌<◌, ◌≤◌, ◌≡◌, Bool, true, false, cond, List, [], ◌∷◌, ◌++◌, Some, length, slice_get, refl, sym, subst, arith, All}
+use Rattle.std.proofs.Common.{ℕ, suc, ◌≡◌, Bool, true, false, cond, List, [], ◌∷◌, Some, slice_get, All}
 use Rattle.std.specs.Prelude.{filter}
 use Rattle.std.proofs.lemmas.Bool.{false≢true}
 use Rattle.std.proofs.lemmas.List.Elements.{All-nil, All-cons, All-append}
-use Rattle.pil_ast.specs.Term.{Tuples, Line, constant, commit, inter, published, identity, lookup, bus, Namespace, item_at, space_at, is_line}
+use Rattle.pil_ast.specs.Term.{Tuples, Line, constant, commit, inter, published, identity, lookup, bus, Namespace, item_at, is_line}
 use Rattle.pil_ast.specs.Sound.{IsItem, IsSound, IsList}
 use Rattle.pil_ast.specs.Holds.{lines}
 use Rattle.pil_laws.proofs.Lines.{line-found}

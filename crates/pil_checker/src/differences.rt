@@ -19,12 +19,7 @@ use row_check::Broken;
 use std::alloc::{AllocError, Global};
 
 /// The tuples of the parts from one number on, before another.
-fn side(
-    alloc: Global,
-    parts: &[Part],
-    first: usize,
-    end: usize,
-) -> Result<TupleList, AllocError>
+fn side(alloc: Global, parts: &[Part], first: usize, end: usize) -> Result<TupleList, AllocError>
     requires low { first ≤ end }
     requires high { end ≤ length parts.now }
     ensures { IfOk result (λ tuples. tuples ≡ side_of parts.now first (end - first)) }

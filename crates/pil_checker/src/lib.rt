@@ -7,5 +7,7 @@ mod lines;
 mod placing;
 mod plans;
 mod rights;
+mod whole;
 
 pub use checker::Checker;
+pub use whole::first_broken;

@@ -26,4 +26,3 @@ pub names_weaker : (P Q : ℕ → Type 0) → ((k : ℕ) → P k → Q k) → (e
 names_weaker P Q f e h =
     each_from (λ n. Unit {0}) (λ n. Unit {0}) (λ s k b. Unit {0}) (λ s k b. Unit {0}) (λ s k b. P k) (λ s k b. Q k) (λ k. Unit {0}) (λ k. Unit {0})
     (λ n x. x) (λ s k b x. x) (λ s k b x. f k x) (λ k x. x) e h
-

@@ -78,12 +78,7 @@ fn run_step<C: InstanceColumns>(
 }
 
 /// Writes the values of each step of a program at some rows. It takes no memory.
-pub fn run<C: InstanceColumns>(
-    columns: &C,
-    stretch: &Stretch,
-    nodes: &[Node],
-    blocks: &mut [Block],
-)
+pub fn run<C: InstanceColumns>(columns: &C, stretch: &Stretch, nodes: &[Node], blocks: &mut [Block])
     requires stretch { IsStretch (C.values columns.now) stretch.now }
     requires program { IsProgram ((C.values columns.now).width stretch.now.space) nodes.now }
     requires room { length nodes.now ≤ length blocks.old }
@@ -92,12 +87,6 @@ pub fn run<C: InstanceColumns>(
 {
     for number in 0..nodes.len() {
         let (done, rest) = blocks.split_at_mut(number);
-        run_step(
-            columns,
-            stretch,
-            &nodes[number],
-            done,
-            &mut rest[0],
-        );
+        run_step(columns, stretch, &nodes[number], done, &mut rest[0]);
     }
 }

@@ -1,15 +1,12 @@
-use Rattle.std.proofs.Common.{ℕ, ◌≡◌, ◌<◌, ◌≤◌, ◌+◌, ◌↔◌, List, Option, Some, None, MatchOption, length, flat_map, sym, ◌∙◌, subst, refl, arith, rules, All}
+use Rattle.std.proofs.Common.{ℕ, ◌≡◌, ◌<◌, ◌≤◌, ◌+◌, ◌↔◌, Option, Some, None, MatchOption, length, flat_map, sym, ◌∙◌, subst, refl, arith, rules, All}
 use Rattle.std.specs.List.{range_with_len}
-use Rattle.pil_ast.specs.Term.{Namespace}
 use Rattle.pil_ast.specs.Columns.{Columns}
-use Rattle.pil_program.specs.declared.nodes.Node.{Node}
 use Rattle.pil_program.specs.Program.{AreValues}
 use Rattle.pil_program.specs.Blocks.{at_lane}
-use Rattle.instance_pass.specs.declared.parts.Part.{Part}
 use Rattle.instance_pass.specs.declared.passes.Found.{Found}
 use Rattle.instance_pass.specs.Senders.{sent_by}
 use Rattle.instance_pass.specs.Parts.{IsPartIn, Takes}
-use Rattle.instance_pass.specs.Passes.{AllMet, FailsLeast, Says, AsksNth, IsSameInstance, AreChecksOf, AreTabled, IsPassed, TakesRows, AtEach}
+use Rattle.instance_pass.specs.Passes.{AllMet, FailsLeast, Says, AsksNth, IsSameInstance, IsPassed, TakesRows, AtEach}
 use Rattle.instance_pass.proofs.Elements.{each-both}
 use Rattle.instance_pass.proofs.Reading.{values-same}
 use Rattle.instance_pass.proofs.Passing.{passed-none, passed-found, passed-end}

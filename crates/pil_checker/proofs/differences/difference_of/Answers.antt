@@ -1,7 +1,7 @@
-use Rattle.std.proofs.Common.{ℕ, ◌≡◌, ◌-◌, ◌+◌, ◌<◌, ◌≤◌, List, Some, slice_get, length, sym, ◌∙◌, ap, subst, arith, MatchOption}
+use Rattle.std.proofs.Common.{◌≡◌, ◌-◌, ◌+◌, length, sym, ◌∙◌, ap, subst, arith, MatchOption}
 use Rattle.std.proofs.lemmas.Result.{IfOk-weaker}
 use Rattle.pil_ast.specs.Tree.{namespaces}
-use Rattle.pil_ast.specs.Term.{Line, item_at}
+use Rattle.pil_ast.specs.Term.{item_at}
 use Rattle.pil_ast.specs.Holds.{all_sent, lines}
 use Rattle.row_check.specs.Breaks.{IsBreakOf}
 use Rattle.pil_checker.specs.Programs.{nodes_at}

@@ -1,4 +1,4 @@
-use Rattle.std.proofs.Common.{◌≡◌, ◌-◌, ◌+◌, ◌<◌, [], ◌++◌, ap, sym, ◌∙◌, length, subst, arith}
+use Rattle.std.proofs.Common.{◌≡◌, ◌-◌, ◌+◌, [], ◌++◌, ap, sym, ◌∙◌, subst, arith}
 use Rattle.pil_checker.specs.Standing.{tuples_at, side_of}
 use Rattle.pil_checker.proofs.Elements.{map-read}
 use Rattle.pil_checker.proofs.Rows.{side-more}

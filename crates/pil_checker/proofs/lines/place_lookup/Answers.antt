@@ -1,10 +1,10 @@
-use Rattle.std.proofs.Common.{◌≡◌, ◌<◌, ◌≤◌, ◌∷◌, ◌++◌, [], Some, slice_get, length, length-append, refl, sym, ◌∙◌, ap, subst, arith}
+use Rattle.std.proofs.Common.{◌≡◌, ◌<◌, ◌≤◌, ◌∷◌, [], Some, slice_get, length, length-append, sym, ◌∙◌, ap, subst, arith}
 use Rattle.std.proofs.lemmas.Option.{get_or_from_slice_get}
 use Rattle.pil_ast.specs.Tree.{namespaces, tuples}
 use Rattle.pil_ast.specs.Term.{space_at, width}
 use Rattle.pil_ast.specs.Holds.{times}
 use Rattle.pil_program.specs.Program.{IsProgram}
-use Rattle.instance_pass.specs.Senders.{IsSenderOf, IsSenderIn}
+use Rattle.instance_pass.specs.Senders.{IsSenderOf}
 use Rattle.pil_checker.specs.Programs.{nodes_at}
 use Rattle.pil_checker.proofs.Elements.{get-last, read-found}
 use Rattle.pil_checker.proofs.Grown.{nodes-found, sender-kept}

@@ -1,12 +1,12 @@
-use Rattle.std.proofs.Common.{◌≡◌, ◌+◌, ◌∷◌, ◌++◌, [], Some, slice_get, length, length-append, length-take, take, map, refl, sym, ◌∙◌, ap, subst, arith}
+use Rattle.std.proofs.Common.{◌≡◌, ◌+◌, ◌∷◌, ◌++◌, [], Some, slice_get, length, length-append, length-take, take, map, sym, ◌∙◌, ap, subst, arith}
 use Rattle.std.proofs.lemmas.List.{length-map}
 use Rattle.pil_ast.specs.Tree.{namespaces, tuples}
 use Rattle.instance_pass.specs.declared.parts.Part.{Part}
 use Rattle.pil_checker.specs.Programs.{nodes_at, IsPlain}
 use Rattle.pil_checker.specs.Plans.{Extends, HaveParts}
 use Rattle.pil_checker.proofs.Elements.{get-last, map-all, map-take}
-use Rattle.pil_checker.proofs.Grown.{placing-none, placing-both}
-use Rattle.pil_checker.proofs.Lined.{extends-none, extends-both, extends-push, have-grown, have-extended, have-push, known-grown, known-push, idle-push}
+use Rattle.pil_checker.proofs.Grown.{placing-both}
+use Rattle.pil_checker.proofs.Lined.{extends-both, extends-push, have-grown, have-extended, have-push, known-grown, known-push, idle-push}
 use Rattle.pil_checker.proofs.lines.place_parts.Goals as goal
 
 pub place_list-requires-clause-list : goal.place_list-requires-clause-list

@@ -11,5 +11,5 @@ invariant-loop-list l = record {
   long : length l.parts.items ≡ length l.fn.parts.items + l.list-index;
   have : HaveParts (namespaces l.pil) (nodes_at l.programs.items) l.parts.items (length l.fn.parts.items) (take l.list-index (map tuples l.lists));
   known : AreKnown (namespaces l.pil) (nodes_at l.programs.items) l.parts.items;
-  idle : AreIdle l.parts.items
+  idle : AreIdle l.parts.items;
 }

@@ -1,6 +1,6 @@
-use Rattle.std.proofs.Common.{◌≡◌, ◌+◌, ◌≤◌, length, map, sym, ◌∙◌, ap, subst, arith}
+use Rattle.std.proofs.Common.{◌≡◌, ◌+◌, length, map, sym, ap, subst, arith}
 use Rattle.std.proofs.lemmas.List.{length-map}
-use Rattle.pil_ast.specs.Term.{bus, Line}
+use Rattle.pil_ast.specs.Term.{bus}
 use Rattle.pil_ast.specs.Tree.{namespaces, tuples, line}
 use Rattle.pil_checker.specs.declared.lines.Span.{Span}
 use Rattle.pil_checker.specs.Programs.{nodes_at}

@@ -1,4 +1,4 @@
-use Rattle.std.proofs.Common.{◌+◌, ◌∷◌, [], take, map, sym, subst}
+use Rattle.std.proofs.Common.{[], take, map, sym, subst}
 use Rattle.pil_ast.specs.Tree.{namespaces, term}
 use Rattle.pil_ast.specs.Sound.{IsTerm}
 use Rattle.pil_program.specs.Publics.{NoPublic}

@@ -7,5 +7,5 @@ use Rattle.pil_checker.proofs.placing.place_terms.Given as goal
 abbrev pub invariant-loop-expr : goal.invariant-loop-expr
 invariant-loop-expr l = record {
   placing : IsPlacing (namespaces l.pil) l.fn.programs.items l.programs.items;
-  computes : AllCompute (namespaces l.pil) l.space (nodes_at l.programs.items l.space) (take l.expr-index (map term l.exprs)) l.steps
+  computes : AllCompute (namespaces l.pil) l.space (nodes_at l.programs.items l.space) (take l.expr-index (map term l.exprs)) l.steps;
 }

@@ -1,7 +1,7 @@
-use Rattle.std.proofs.Common.{◌≡◌, ◌<◌, [], length, flat_map, sym, ◌∙◌, ap, subst, arith}
+use Rattle.std.proofs.Common.{◌≡◌, [], flat_map, sym, ◌∙◌, ap, arith}
 use Rattle.std.specs.List.{range_with_len}
 use Rattle.pil_ast.specs.Tree.{namespaces}
-use Rattle.pil_ast.specs.Holds.{by_rows, row_sent}
+use Rattle.pil_ast.specs.Holds.{row_sent}
 use Rattle.pil_checker.proofs.Rows.{rows-more, rows-all}
 use Rattle.pil_checker.proofs.rights.send_all.Goals as goal
 

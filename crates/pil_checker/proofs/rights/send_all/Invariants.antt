@@ -8,5 +8,5 @@ use Rattle.pil_checker.proofs.rights.send_all.Given as goal
 abbrev pub invariant-loop-instance : goal.invariant-loop-instance
 invariant-loop-instance g l = record {
   room : length l.blocks ≡ length l.nodes;
-  sent : (a : Tuples) → IsSenderOf (namespaces l.pil) l.nodes a l.sender → l.tuples ≡ by_rows (row_sent (namespaces l.pil) (g.C.Columns.values l.columns) a) l.instance l.rows
+  sent : (a : Tuples) → IsSenderOf (namespaces l.pil) l.nodes a l.sender → l.tuples ≡ by_rows (row_sent (namespaces l.pil) (g.C.Columns.values l.columns) a) l.instance l.rows;
 }

@@ -1,4 +1,4 @@
-use Rattle.std.proofs.Common.{◌∙◌, ap, length, ◌≡◌, arith}
+use Rattle.std.proofs.Common.{◌∙◌, ap}
 use Rattle.pil_ast.specs.Holds.{times}
 use Rattle.pil_checker.proofs.rights.table_of.Goals as goal
 

@@ -1,12 +1,9 @@
-use Rattle.std.proofs.Common.{ℕ, ◌≡◌, ◌+◌, ◌<◌, ◌≤◌, ◌^◌, Option, Some, None, length, refl, sym, ◌∙◌, ap, subst, arith, below_more, MatchOption}
+use Rattle.std.proofs.Common.{◌≡◌, ◌+◌, ◌<◌, length, refl, ◌∙◌, ap, subst, arith, below_more, MatchOption}
 use Rattle.pil_ast.specs.Tree.{namespaces}
-use Rattle.pil_ast.specs.Term.{Line, item_at}
-use Rattle.pil_ast.specs.Columns.{Columns}
-use Rattle.pil_ast.specs.Holds.{Holds, lines}
+use Rattle.pil_ast.specs.Term.{item_at}
+use Rattle.pil_ast.specs.Holds.{lines}
 use Rattle.pil_laws.proofs.Lines.{holds-within}
-use Rattle.row_check.specs.declared.broken.Broken.{Broken}
 use Rattle.row_check.specs.Breaks.{IsBreakOf}
-use Rattle.pil_checker.specs.declared.checker.Spot.{Spot}
 use Rattle.pil_checker.specs.Standing.{AgreesIfBus, AllUpTo, IsFound, added, limit_of}
 use Rattle.pil_checker.proofs.Grown.{few-lines}
 use Rattle.pil_checker.proofs.Finished.{have-all, line-holds, line-breaks, first-broken, known-before}

@@ -1,11 +1,10 @@
-use Rattle.std.proofs.Common.{ℕ, ◌≡◌, ◌<◌, ◌≤◌, Some, length, get_or, slice_get, sym, ◌∙◌, ap, subst, arith}
+use Rattle.std.proofs.Common.{◌≡◌, ◌<◌, Some, length, get_or, slice_get, sym, ◌∙◌, ap, subst, arith}
 use Rattle.std.proofs.lemmas.Result.{IfOk-weaker}
 use Rattle.std.proofs.lemmas.Option.{slice_get-get_or}
 use Rattle.pil_ast.specs.Tree.{namespaces}
 use Rattle.pil_ast.specs.Term.{item_at}
 use Rattle.pil_ast.specs.Holds.{lines}
 use Rattle.instance_pass.specs.Checks.{IsCheckIn}
-use Rattle.instance_pass.specs.Parts.{IsPartIn}
 use Rattle.instance_pass.specs.Passes.{AreChecksOf}
 use Rattle.pil_checker.specs.Programs.{nodes_at}
 use Rattle.pil_checker.proofs.Added.{check-inside, part-inside}

@@ -7,5 +7,5 @@ abbrev pub invariant-loop-before : goal.invariant-loop-before
 invariant-loop-before g l = record {
   planned : IsPlanUpTo (namespaces l.pil) l.plan l.before;
   tabled : AreTabled (namespaces l.pil) (g.C.Columns.values l.columns) l.plan.tables.items l.plan.checks.items;
-  idle : AreIdle l.plan.parts.items
+  idle : AreIdle l.plan.parts.items;
 }

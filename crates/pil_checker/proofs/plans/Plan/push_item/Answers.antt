@@ -1,4 +1,4 @@
-use Rattle.std.proofs.Common.{ℕ, ◌≡◌, ◌+◌, ◌++◌, ◌∷◌, [], Some, slice_get, length, length-append, sym, ◌∙◌, ap, subst, arith}
+use Rattle.std.proofs.Common.{◌≡◌, ◌+◌, ◌∷◌, [], length, length-append, sym, ◌∙◌, ap, subst, arith}
 use Rattle.pil_ast.specs.Tree.{namespaces, line}
 use Rattle.pil_ast.specs.Term.{item_at}
 use Rattle.pil_ast.specs.Holds.{lines}

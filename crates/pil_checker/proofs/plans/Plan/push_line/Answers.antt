@@ -1,4 +1,4 @@
-use Rattle.std.proofs.Common.{◌≡◌, ◌-◌, ◌<◌, Some, slice_get, length, sym, ◌∙◌, ap, subst, arith}
+use Rattle.std.proofs.Common.{◌≡◌, ◌-◌, ◌<◌, slice_get, length, sym, ◌∙◌, ap, arith}
 use Rattle.pil_ast.specs.Tree.{namespaces, line}
 use Rattle.pil_ast.specs.Holds.{lines}
 use Rattle.pil_laws.proofs.Lines.{item-there}
