@@ -323,7 +323,7 @@ fn a_failing_host_leaves_a_front_of_the_tables(rt: HostRuntime) -> Result<(), Fa
     for (call, number, written) in [
         (HostCall::Create, 0, None),
         (HostCall::Write, 0, Some(0)),
-        (HostCall::Write, 3, Some(44 + 2 * 65_536)),
+        (HostCall::Write, 2, Some(2 * 65_536)),
         (HostCall::Report, 0, Some(4_064_364)),
     ] {
         let mut failing = Vec::new(alloc);
