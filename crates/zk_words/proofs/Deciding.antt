@@ -176,7 +176,6 @@ decided (a ∷ b ∷ c ∷ d ∷ e ∷ f ∷ g ∷ ws) = inr (not_more a b c d e
 
 -- ---- one command
 
-
 pub one : (words : List (List ℕ)) (a b : Command) → Reads words a → Reads words b → a ≡ b
 one words (Run s) (Run t) h k =
     let same : h.2 ≡ k.2 = cc in
