@@ -1,6 +1,6 @@
 -- The stages of `check`, read against its outcome.
-use Rattle.std.proofs.Common.{◌≡◌, ◌⊎◌, inl, inr, ℕ, ◌<◌, ◌^◌, List, [], ◌∷◌, ◌++◌, Some, Option, slice_index, refl, sym, ap, ◌∙◌, subst}
-use Rattle.host_io.specs.World.{World, Asked, Opened}
+use Rattle.std.proofs.Common.{◌≡◌, ◌⊎◌, inl, inr, ℕ, ◌<◌, ◌^◌, List, [], ◌∷◌, slice_index, refl, sym, ap, ◌∙◌}
+use Rattle.host_io.specs.World.{Asked, Opened}
 use Rattle.gold.specs.declared.instances.Witness.{Witness}
 use Rattle.gold.specs.declared.shapes.Form.TheVariants.{Two}
 use Rattle.gold.specs.declared.shapes.Shape.{Shape}

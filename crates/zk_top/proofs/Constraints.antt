@@ -1,15 +1,10 @@
 -- The stages of `pil`, read against its outcome.
-use Rattle.std.proofs.Common.{◌≡◌, ◌≢◌, ◌⊎◌, inl, inr, ℕ, ◌≤◌, ◌^◌, List, [], ◌∷◌, ◌++◌, length, map, Option, Some, Ok, Err, refl, sym, ap, ◌∙◌, subst, arith}
+use Rattle.std.proofs.Common.{◌≡◌, ◌≢◌, inl, inr, ℕ, ◌^◌, List, [], ◌∷◌, map, refl, sym, ap, ◌∙◌, subst}
 use Rattle.host_io.specs.World.{World, Asked, Opened}
-use Rattle.gold.specs.declared.instances.Witness.{Witness}
 use Rattle.gold.specs.declared.shapes.AirShape.{AirShape}
 use Rattle.gold.specs.declared.shapes.Form.{Form}
 use Rattle.gold.specs.declared.shapes.Form.TheVariants.{Plain}
 use Rattle.gold.specs.declared.shapes.Shape.{Shape}
-use Rattle.tab_file.specs.declared.fault.TabErr.{TabErr}
-use Rattle.tab_file.specs.declared.fault.TabKind.{TabKind}
-use Rattle.tab_file.specs.Items.{failure}
-use Rattle.tab_file.specs.Reading.{TabReads, TabFails}
 use Rattle.pil_ast.specs.Term.{Namespace}
 use Rattle.pil_ast.specs.Columns.{Columns}
 use Rattle.pil_ast.specs.Shape.{air_shape}
@@ -22,7 +17,7 @@ use Rattle.wit_columns.specs.Values.{values_of}
 use Rattle.zk_words.specs.declared.status.Which.TheVariants as files
 use Rattle.zk_words.specs.declared.status.Status.{Status}
 use Rattle.zk_words.specs.declared.status.Status.TheVariants as statuses
-use Rattle.zk_top.specs.Outcome.{Outcome, Contents, refused, shape_of, WithFile, WithText, WithTables, OfLines, OfTables, IsPilOutcome}
+use Rattle.zk_top.specs.Outcome.{Outcome, Contents, refused, shape_of, WithFile, WithText, OfLines, OfTables}
 use Rattle.zk_top.specs.Ends.{AreReadOut, Asks}
 use Rattle.zk_top.specs.Parts.{Stops, IsOnlyText, IsOnlyFault, IsTextRefusal}
 use Rattle.zk_top.proofs.FileTables.{tables_names}

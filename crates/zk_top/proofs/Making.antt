@@ -1,5 +1,5 @@
 -- The stages of `witness`, read against its outcome.
-use Rattle.std.proofs.Common.{◌≡◌, ◌⊎◌, inl, inr, ℕ, ◌<◌, ◌≤◌, ◌^◌, List, [], ◌∷◌, ◌++◌, length, take, Option, Some, Ok, Err, Result, refl, sym, ap, ◌∙◌, subst, arith, append_assoc, append-nil}
+use Rattle.std.proofs.Common.{◌≡◌, inl, inr, ℕ, ◌≤◌, List, [], ◌∷◌, ◌++◌, length, take, Ok, Err, Result, refl, sym, ap, ◌∙◌, subst, append_assoc, append-nil}
 use Rattle.std.proofs.Math.Seq.{take-length}
 use Rattle.host_io.specs.World.{World, Asked, Created}
 use Rattle.gold.specs.declared.instances.Witness.{Witness}
@@ -13,9 +13,9 @@ use Rattle.run_tables.specs.declared.made.Made.{Made}
 use Rattle.tab_file.specs.Format.{text as file_text}
 use Rattle.zk_words.specs.declared.status.Status.{Status}
 use Rattle.zk_words.specs.declared.status.Status.TheVariants as statuses
-use Rattle.zk_top.specs.Outcome.{NewFile, Outcome, Contents, refused, of_made, of_making}
+use Rattle.zk_top.specs.Outcome.{NewFile, Outcome, Contents, of_made, of_making}
 use Rattle.zk_top.specs.Ends.{AreReadOut, AreRead, Asks, with_bytes, with_new, HasWritten, HasReported, IsUnreported}
-use Rattle.zk_top.specs.Parts.{IsMaking, LeadsToTables, HasBehind, IsCut, Stops}
+use Rattle.zk_top.specs.Parts.{IsMaking, LeadsToTables, HasBehind, IsCut}
 use Rattle.zk_top.proofs.Stages.{Begins, begins_exactly, front_asked, front_of_name, refused_asks, read_both}
 
 -- a run that halts has as many steps as its limit at most

@@ -1,18 +1,16 @@
 -- A file that is created and written piece by piece.
-use Rattle.std.proofs.Common.{◌≡◌, ◌==◌, ◌+◌, ℕ, zero, suc, ◌<◌, ◌≤◌, List, [], ◌∷◌, ◌++◌, length, take, min, get_or, Bool, true, false, cond, Option, Some, None, Result, Ok, Err, OnOk, OnErr, inl, inr, refl, sym, ap, ◌∙◌, subst, arith, append_assoc, append-nil, All}
+use Rattle.std.proofs.Common.{◌≡◌, ◌==◌, ◌+◌, ℕ, zero, suc, ◌<◌, ◌≤◌, List, [], ◌∷◌, ◌++◌, length, take, min, get_or, Bool, true, false, cond, Option, Some, None, Result, Ok, Err, OnOk, OnErr, inl, inr, refl, sym, ap, ◌∙◌, arith, append_assoc, append-nil}
 use Rattle.std.proofs.lemmas.Bool.{eq-eqb}
 use Rattle.std.proofs.lemmas.List.{flat_map_more, take_more, take_all}
-use Rattle.std.proofs.Math.Seq.{take-length}
 use Rattle.std.specs.Option.{option_map}
 use Rattle.std.specs.List.{flat_map}
 use Rattle.std.specs.Prelude.{nat_eq}
 use Rattle.std.specs.Cmp.Lexicographic.{pointwise}
 use mathlib.Core.Path.{fun_ext}
 use Rattle.gold.specs.declared.instances.Table.{Table}
-use Rattle.host_io.specs.World.{World, Asked, Created, with_slot, with_file, after_asking, after_create, after_write}
+use Rattle.host_io.specs.World.{World, Created, with_slot, with_file, after_asking, after_create, after_write}
 use Rattle.host_io.specs.Calls.{HasWrittenFront}
 use Rattle.tab_file.specs.Pieces.{table_text}
-use Rattle.zk_top.specs.Ends.{Asks, AsksAtMost, with_bytes}
 use Rattle.zk_top.specs.Parts.{HasBehind, IsCut}
 
 -- ---- one write after another

@@ -1,5 +1,5 @@
 -- The stage of the ELF file and the input, whatever follows it.
-use Rattle.std.proofs.Common.{◌≡◌, ◌⊎◌, inl, inr, ℕ, ◌≤◌, ◌-◌, ◌^◌, List, [], ◌∷◌, ◌++◌, length, Some, refl, sym, ap, ◌∙◌, subst}
+use Rattle.std.proofs.Common.{◌≡◌, ◌⊎◌, inl, inr, ℕ, ◌≤◌, ◌-◌, ◌^◌, List, [], ◌∷◌, length, Some, refl, sym, ap, ◌∙◌, subst}
 use Rattle.host_io.specs.World.{World, Asked, Opened}
 use Rattle.rv_model.specs.Image.{Img}
 use Rattle.rv_model.specs.Run.{End, Halted, Faulted, Limited, end_within}
@@ -11,7 +11,7 @@ use Rattle.zk_words.specs.declared.status.Status.{Status}
 use Rattle.zk_words.specs.declared.status.Status.TheVariants as statuses
 use Rattle.zk_top.specs.Outcome.{Outcome, Contents, refused, of_run, with_input, program_names, WithFile, WithImage, WithProgram}
 use Rattle.zk_top.specs.Ends.{AreReadOut, Asks}
-use Rattle.zk_top.specs.Parts.{Stops, IsNotRead, IsOnlyImage, IsRefusal, HasProgram, HasNoProgram, stop_of}
+use Rattle.zk_top.specs.Parts.{Stops, IsOnlyImage, IsRefusal, HasProgram, HasNoProgram}
 use Rattle.zk_top.proofs.Stages.{Begins, begins_exactly, file_begins, file_on, front_asked, refused_asks, stopped, asks_nothing, asks_both, read_both}
 use Rattle.zk_top.proofs.FileStages.{some_with_file, one_with_file}
 

@@ -1,10 +1,10 @@
 -- The headline's sentences.
-use Rattle.std.proofs.Common.{◌≡◌, ◌↔◌, ◌⊎◌, inl, inr, ℕ, ◌+◌, ◌-◌, ◌^◌, ◌<◌, ◌≤◌, List, [], ◌∷◌, length, Some, slice_index, refl, sym, ap, ◌∙◌, subst, arith}
-use Rattle.std.specs.Prelude.{codes, decimal}
+use Rattle.std.proofs.Common.{◌≡◌, inl, inr, ℕ, ◌+◌, ◌^◌, ◌<◌, ◌≤◌, List, [], length, Some, slice_index, refl, sym, ap, ◌∙◌, subst, arith}
+use Rattle.std.specs.Prelude.{decimal}
 use Rattle.std.proofs.lemmas.List.Elements.{All-from_get_or}
-use Rattle.host_io.specs.World.{Asked, Opened}
+use Rattle.host_io.specs.World.{Asked}
 use Rattle.rv_model.specs.Image.{Img, IsLoadable, AreBytes as AreOctets}
-use Rattle.rv_model.specs.Run.{End, Halted, end_within, EndsOnce, RunsTo}
+use Rattle.rv_model.specs.Run.{Halted, end_within, EndsOnce, RunsTo}
 use Rattle.rv_model.specs.declared.answer.Public.{Public}
 use Rattle.rv_model.specs.declared.machine.TheConstants.{INPUT_LEN}
 use Rattle.elf_load.specs.Loads.{Loads}
@@ -25,14 +25,14 @@ use Rattle.row_check.specs.declared.broken.Broken.{Broken}
 use Rattle.row_check.specs.Breaks.{IsFirstBroken}
 use Rattle.machine_text.specs.Machine.{machine}
 use Rattle.machine_columns.specs.Values.{values_of}
-use Rattle.machine_columns.specs.Accepted.{AreWellFormed, AreAccepted, public_of}
+use Rattle.machine_columns.specs.Accepted.{AreAccepted, public_of}
 use Rattle.zk_words.specs.Words.{Reads}
 use Rattle.zk_words.specs.declared.command.Command.{Command}
 use Rattle.zk_words.specs.declared.command.Command.TheVariants.{Witness as MakeWitness, Check}
 use Rattle.zk_words.specs.declared.command.TheConstants.{MOST_WORKERS}
 use Rattle.zk_words.specs.declared.status.Which.TheVariants as files
 use Rattle.zk_words.specs.declared.status.Status.TheVariants as statuses
-use Rattle.zk_top.specs.Outcome.{Outcome, Contents, AreBytes, reporting, with_input, program_names, check_names, check_report, of_making, of_made, WithProgram, OfVerdict, OfMachineTables, IsWitnessOutcome, IsCheckOutcome, IsOutcomeOf, IsOutcome}
+use Rattle.zk_top.specs.Outcome.{Outcome, Contents, AreBytes, with_input, program_names, check_names, check_report, of_making, WithProgram, OfVerdict, OfMachineTables, IsWitnessOutcome, IsCheckOutcome, IsOutcomeOf, IsOutcome}
 use Rattle.zk_top.specs.Headline.{AreProgram, AreTables, witness_words, check_words, WritesRun, Judges}
 use Rattle.zk_top.proofs.Stages.{file_on}
 use Rattle.zk_top.proofs.FileTables.{tables_on, refused_so, only_failure}

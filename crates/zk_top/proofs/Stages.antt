@@ -1,6 +1,5 @@
 -- How the parts of a command join.
 use Rattle.std.proofs.Common.{◌≡◌, ◌⊎◌, inl, inr, ℕ, zero, suc, ◌<◌, ◌≤◌, ◌+◌, List, [], ◌∷◌, ◌++◌, length, take, min, Option, Some, None, Ok, Err, Result, Vec, Global, Bool, true, false, MatchBool, nat_le, refl, sym, ap, ◌∙◌, arith, subst, append_assoc, append-nil}
-use Rattle.std.proofs.Math.Seq.{take-length}
 use Rattle.host_io.specs.World.{World, Asked, after_report}
 use Rattle.host_io.specs.Calls.{HasReportedFront}
 use Rattle.zk_words.specs.declared.status.Which.{Which}

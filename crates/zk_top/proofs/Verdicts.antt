@@ -1,5 +1,5 @@
 -- One outcome of `pil`.
-use Rattle.std.proofs.Common.{◌≡◌, ◌⊎◌, inl, inr, ℕ, ◌<◌, ◌^◌, List, [], ◌∷◌, Some, slice_index, refl, sym, ap, ◌∙◌, subst}
+use Rattle.std.proofs.Common.{◌≡◌, ◌⊎◌, inl, inr, ℕ, ◌<◌, ◌^◌, List, [], ◌∷◌, slice_index, refl, sym, ap, ◌∙◌}
 use Rattle.host_io.specs.World.{Asked, Opened}
 use Rattle.gold.specs.declared.instances.Witness.{Witness}
 use Rattle.gold.specs.declared.shapes.Shape.{Shape}
@@ -18,7 +18,7 @@ use Rattle.zk_words.specs.declared.status.Status.TheVariants as statuses
 use Rattle.zk_top.specs.Outcome.{Outcome, Contents, AreBytes, reporting, refused, shape_of, pil_report, OfLines, OfTables, IsPilOutcome}
 use Rattle.zk_top.proofs.FileStages.{some_with_file, one_with_file}
 use Rattle.zk_top.proofs.FileTables.{some_with_tables, one_with_tables}
-use Rattle.zk_top.proofs.Constraints.{pair, OnText, OnPil, only_text, text_on}
+use Rattle.zk_top.proofs.Constraints.{pair, OnPil, only_text, text_on}
 
 -- some outcome, where each line holds or one is the first broken one, and each file reads or fails
 module _ (verdict : (ns : List Namespace) (c : Columns) → AllHold ns c ⊎ ((b : Broken) × IsFirstBroken ns c b)) (reads_or_fails : (bytes : List ℕ) (shape : Shape) → ((i : ℕ) → slice_index bytes i < 256) → ((witness : Witness) × TabReads bytes shape witness) ⊎ ((kind : TabKind) × (at : ℕ) × TabFails bytes shape kind at)) (decided : (text : List ℕ) → IsDecided text) where

@@ -1,4 +1,4 @@
-use Rattle.std.proofs.Common.{◌≡◌, ℕ, ◌^◌, List, [], ◌∷◌, Option, Some, sym, ap, ◌∙◌, subst}
+use Rattle.std.proofs.Common.{◌≡◌, ℕ, ◌^◌, List, [], ◌∷◌, Some, sym, ap, ◌∙◌, subst}
 use Rattle.host_io.specs.World.{Opened}
 use Rattle.pil_ast.specs.Tree.{namespaces}
 use Rattle.zk_words.specs.declared.status.Which.TheVariants as files

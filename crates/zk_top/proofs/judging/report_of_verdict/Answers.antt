@@ -1,4 +1,4 @@
-use Rattle.std.proofs.Common.{◌≡◌, sym, ap, ◌∙◌}
+use Rattle.std.proofs.Common.{◌≡◌, ap, ◌∙◌}
 use Rattle.machine_text.specs.Machine.{machine}
 use Rattle.row_check.specs.Breaks.{IsFirstBroken}
 use Rattle.machine_columns.specs.Values.{values_of}

@@ -1,9 +1,7 @@
 use Rattle.std.proofs.Common.{◌≡◌, ◌⊎◌, inl, inr, ℕ, List, [], refl, sym, ◌∙◌, subst}
-use Rattle.std.specs.Prelude.{codes}
 use Rattle.pil_print.specs.Printed.{printed}
 use Rattle.machine_text.specs.Machine.{machine}
 use Rattle.zk_words.specs.Words.{Reads}
-use Rattle.gold.specs.declared.shapes.Profile.TheVariants.{Small, Wide}
 use Rattle.zk_words.specs.declared.command.Command.{Command}
 use Rattle.zk_words.specs.declared.command.Command.TheVariants.{Run, Witness, Check, Pil, Machine}
 use Rattle.zk_words.specs.declared.status.Status.TheVariants as statuses

@@ -1,7 +1,6 @@
-use Rattle.std.proofs.Common.{List, ℕ, [], refl, sym, ◌∙◌, ◌≡◌}
-use Rattle.rv_model.specs.Image.{Img}
+use Rattle.std.proofs.Common.{[], refl, sym, ◌∙◌, ◌≡◌}
 use Rattle.rv_model.specs.Run.{end_within}
-use Rattle.zk_top.specs.Outcome.{Outcome, IsRunOutcome, of_run, program_names}
+use Rattle.zk_top.specs.Outcome.{IsRunOutcome, of_run, program_names}
 use Rattle.zk_top.proofs.Programs.{some_with_program, one_with_program}
 use Rattle.zk_top.proofs.laws.one_run.Goals as goal
 

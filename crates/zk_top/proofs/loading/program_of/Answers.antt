@@ -1,5 +1,5 @@
-use Rattle.std.proofs.Common.{◌≡◌, ℕ, ◌-◌, ◌^◌, List, inr, subst}
-use Rattle.host_io.specs.World.{World, Opened}
+use Rattle.std.proofs.Common.{ℕ, ◌-◌, ◌^◌, List, inr, subst}
+use Rattle.host_io.specs.World.{Opened}
 use Rattle.zk_top.specs.Outcome.{Contents}
 use Rattle.zk_top.specs.Parts.{IsOnlyImage, IsRead, IsNotRead}
 use Rattle.zk_top.proofs.loading.program_of.Goals as goal

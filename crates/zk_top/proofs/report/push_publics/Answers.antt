@@ -1,4 +1,3 @@
-use Rattle.std.proofs.Common.{take, map}
 use Rattle.pil_ast.specs.Tree.{line}
 use Rattle.pil_laws.proofs.Loops.{mapped-at, pieces-more}
 use Rattle.zk_top.specs.Outcome.{public_line}

@@ -1,7 +1,6 @@
 use Rattle.std.proofs.Common.{◌≡◌}
-use Rattle.rv_model.specs.Image.{Img}
 use Rattle.rv_model.specs.Run.{end_within}
-use Rattle.zk_top.specs.Outcome.{Outcome, IsRunOutcome, program_names, of_run}
+use Rattle.zk_top.specs.Outcome.{IsRunOutcome, program_names, of_run}
 use Rattle.zk_top.proofs.Stages.{begins_exactly, stage_leads}
 use Rattle.zk_top.proofs.Programs.{program_on, program_asks, program_read, program_stops, run_names}
 use Rattle.zk_top.proofs.running.work.Goals as goal

@@ -1,4 +1,4 @@
-use Rattle.std.proofs.Common.{inr, refl, sym, subst, List}
+use Rattle.std.proofs.Common.{inr, refl, subst, List}
 use Rattle.zk_top.specs.Parts.{IsTablesRefusal}
 use Rattle.zk_words.specs.declared.status.Status.TheVariants.{BadTables}
 use Rattle.zk_top.proofs.FileTables.{only_failure}

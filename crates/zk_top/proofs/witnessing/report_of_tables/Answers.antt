@@ -1,11 +1,10 @@
-use Rattle.std.proofs.Common.{inl, inr, ◌≡◌, ◌⊎◌, sym, subst}
+use Rattle.std.proofs.Common.{inl, inr, sym, subst}
 use Rattle.host_io.specs.World.{World}
 use Rattle.zk_words.specs.declared.status.Status.{Status}
-use Rattle.zk_words.specs.declared.status.Status.TheVariants as statuses
 use Rattle.zk_top.specs.Outcome.{Outcome}
 use Rattle.zk_top.specs.Ends.{IsUnreported}
 use Rattle.zk_top.specs.Parts.{IsEarly, Stops}
-use Rattle.zk_top.proofs.Making.{cut_so, whole_written, unreported}
+use Rattle.zk_top.proofs.Making.{cut_so, unreported}
 use Rattle.zk_top.proofs.witnessing.report_of_tables.Goals as goal
 
 stops_so : (o : Outcome) (status : Status) (start new : World) → IsEarly status → IsUnreported o start new → Stops o status start new
