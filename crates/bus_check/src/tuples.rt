@@ -40,6 +40,24 @@ impl TupleList {
         Ok(())
     }
 
+    /// How many tuples there are.
+    #[inline]
+    pub fn len(&self) -> usize {
+        self.tuples.len()
+    }
+
+    /// The tuple at a place, if there is one.
+    #[inline]
+    pub fn get(&self, place: usize) -> Option<&[u64]>
+        ensures { MatchOption result (Unit {0}) (λ t. times t.now self.now ≢ 0) }
+    {
+        if place < self.tuples.len() {
+            Some(self.tuples[place].as_slice())
+        } else {
+            None
+        }
+    }
+
     /// Puts copies of another list's tuples at the end.
     pub fn extend(&mut self, alloc: Global, other: &TupleList) -> Result<(), AllocError>
         ensures { OnOk result (self.new ≡ self.old ++ other.now) }

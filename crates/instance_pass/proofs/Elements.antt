@@ -64,3 +64,11 @@ each-both P Q R old part new both f g = record {
       let found : slice_get part j ≡ Some (get_or part j p) = slice_get-get_or part j p (omega arith) in
       both p (get_or part j p) r (f.each j p (get_or part j p) is found) (g.each j (get_or part j p) r found is');
 }
+
+-- lists that are the same at each place
+pub same-lists : {X : Type 0} (xs ys : List X) → length xs ≡ length ys → ((k : ℕ) → k < length xs → slice_get xs k ≡ slice_get ys k) → xs ≡ ys
+same-lists [] [] l h = refl
+same-lists [] (y ∷ ys) l h = absurd (omega arith)
+same-lists (x ∷ xs) [] l h = absurd (omega arith)
+same-lists (x ∷ xs) (y ∷ ys) l h =
+    ap (λ z. z ∷ xs) (some-same x y (h 0 (omega arith))) ∙ ap (λ zs. y ∷ zs) (same-lists xs ys (omega arith) (λ k m. h (suc k) (omega arith)))

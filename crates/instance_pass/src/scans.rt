@@ -7,7 +7,7 @@ ghost use Rattle.instance_pass.specs.Checks.{Asks, IsCheckIn, HoldsBelow, FailsA
 
 use crate::checks::Check;
 use crate::senders::{Sender, value_at};
-use crate::tables::Table;
+use crate::tables::{Table, next_code};
 use pil_program::Block;
 use std::alloc::{AllocError, Global};
 
@@ -25,6 +25,51 @@ fn first_unequal(a: &Block, b: &Block, count: usize) -> Option<usize>
     None
 }
 
+/// The code of the tuple of a row.
+#[inline]
+fn code_at(sender: &Sender, blocks: &[Block], lane: usize) -> u64
+    requires inside { IsSenderIn (length blocks.now) sender.now }
+    requires lane { lane < 64 }
+{
+    let mut code = 0;
+    for step in sender.terms.as_slice() {
+        code = next_code(code, value_at(blocks, *step, lane));
+    }
+    code
+}
+
+/// Whether the tuple of a row is this one.
+#[inline]
+fn is_tuple(sender: &Sender, tuple: &[u64], blocks: &[Block], lane: usize) -> bool
+    requires inside { IsSenderIn (length blocks.now) sender.now }
+    requires lane { lane < 64 }
+    ensures { result ≡ true → tuple.now ≡ map (at_lane blocks.now lane) sender.now.terms }
+{
+    let terms = sender.terms.as_slice();
+    if tuple.len() != terms.len() {
+        return false;
+    }
+    for place in 0..terms.len() {
+        if tuple[place] != value_at(blocks, terms[place], lane) {
+            return false;
+        }
+    }
+    true
+}
+
+/// Whether the tuple of a row is found at once in the table.
+#[inline]
+fn is_likely(sender: &Sender, table: &Table, blocks: &[Block], lane: usize) -> bool
+    requires inside { IsSenderIn (length blocks.now) sender.now }
+    requires lane { lane < 64 }
+    ensures { result ≡ true → StandsIn table.now sender.now (at_lane blocks.now lane) }
+{
+    match table.likely(code_at(sender, blocks, lane)) {
+        Some(tuple) => is_tuple(sender, tuple, blocks, lane),
+        None => false,
+    }
+}
+
 /// Whether the tuple of a row is known at once to stand in the table.
 #[inline]
 fn is_covered(sender: &Sender, table: &Table, blocks: &[Block], lane: usize) -> bool
@@ -34,7 +79,7 @@ fn is_covered(sender: &Sender, table: &Table, blocks: &[Block], lane: usize) -> 
 {
     match sender.terms.as_slice() {
         [only] => table.covers(value_at(blocks, *only, lane)),
-        _ => false,
+        _ => is_likely(sender, table, blocks, lane),
     }
 }
 

@@ -1,8 +1,9 @@
 //! The right side of an `in`.
-ghost use Rattle.std.specs.Prelude.{◌≡◌, ◌≢◌, ◌<◌, ◌↔◌, ◌∷◌, ℕ, [], List, true, IsTrue};
+ghost use Rattle.std.specs.Prelude.{◌≡◌, ◌≢◌, ◌<◌, ◌↔◌, ◌∷◌, ℕ, [], List, true, IsTrue, IfOk, MatchOption};
 ghost use Rattle.pil_ast.specs.Holds.{times};
 
 use bus_check::TupleList;
+use std::alloc::{AllocError, Global};
 use std::marker::Model;
 
 /// Tuples that can be looked up. Contracts see them as the list of them.
@@ -11,6 +12,47 @@ pub struct Table {
     tuples: TupleList,
     /// Each number below it stands there as a tuple of its own.
     bound: u64,
+    /// By a remainder of a tuple's code the place of the last such tuple; nothing rests on it.
+    places: Vec<usize>,
+}
+
+/// The code of a tuple goes on with one more number.
+#[inline]
+pub fn next_code(code: u64, value: u64) -> u64 {
+    (code ^ value).wrapping_mul(0x9e37_79b9_7f4a_7c15)
+}
+
+/// The slot of a code among so many.
+#[inline]
+fn slot(code: u64, slots: usize) -> usize {
+    if slots == 0 {
+        return 0;
+    }
+    ((code >> 24) % slots as u64) as usize
+}
+
+/// A place for each code that a tuple has.
+fn places_of(alloc: Global, tuples: &TupleList) -> Result<Vec<usize>, AllocError> {
+    let slots = 4 * tuples.len().min(1 << 24) + 1;
+    let mut places = vec![in alloc; 0usize; slots]?;
+    for place in 0..tuples.len() {
+        if let Some(tuple) = tuples.get(place) {
+            let slot = slot(code_of(tuple), places.len());
+            if slot < places.len() {
+                places[slot] = place;
+            }
+        }
+    }
+    Ok(places)
+}
+
+/// The code of a tuple.
+fn code_of(tuple: &[u64]) -> u64 {
+    let mut code = 0;
+    for value in tuple {
+        code = next_code(code, *value);
+    }
+    code
 }
 
 impl Model for Table {
@@ -26,14 +68,30 @@ impl Model for Table {
 }
 
 impl Table {
-    /// A table of these tuples. It takes no memory.
-    pub fn new(tuples: TupleList) -> Table
-        ensures { (t : List ℕ) → times t result ≡ times t tuples }
+    /// A table of these tuples.
+    pub fn new(alloc: Global, tuples: TupleList) -> Result<Table, AllocError>
+        ensures { IfOk result (λ table. (t : List ℕ) → times t table ≡ times t tuples) }
     {
         let mut tuples = tuples;
         tuples.sort();
         let bound = tuples.counted();
-        Table { tuples, bound }
+        let places = places_of(alloc, &tuples)?;
+        Ok(Table {
+            tuples,
+            bound,
+            places,
+        })
+    }
+
+    /// A tuple of the table that may be the one with this code.
+    #[inline]
+    pub fn likely(&self, code: u64) -> Option<&[u64]>
+        ensures { MatchOption result (Unit {0}) (λ t. times t.now self.now ≢ 0) }
+    {
+        match self.places.get(slot(code, self.places.len())) {
+            Some(place) => self.tuples.get(*place),
+            None => None,
+        }
     }
 
     /// Whether a number that is told at once stands in the table as a tuple of its own.

@@ -74,3 +74,16 @@ more-found P old new x e each one k y is = elim (get-push old x y k (ap (λ xs. 
   | inl w ↦ each k y w.1
   | inr w ↦ subst (P k) w.1 (subst (λ j. P j x) (sym w.0) one)
 ]
+
+pub map-found : {X Y : Type 0} (f : X → Y) (xs : List X) (i : ℕ) (x : X) → i < length xs → x ≡ get_or xs i x → slice_get (map f xs) i ≡ Some (f x)
+map-found f [] i x l e = absurd (omega arith)
+map-found f (z ∷ xs) zero x l e = ap (λ y. Some (f y)) (sym e)
+map-found f (z ∷ xs) (suc i) x l e = map-found f xs i x (omega arith) e
+
+-- lists that are the same at each place
+pub same-lists : {X : Type 0} (xs ys : List X) → length xs ≡ length ys → ((k : ℕ) → k < length xs → slice_get xs k ≡ slice_get ys k) → xs ≡ ys
+same-lists [] [] l h = refl
+same-lists [] (y ∷ ys) l h = absurd (omega arith)
+same-lists (x ∷ xs) [] l h = absurd (omega arith)
+same-lists (x ∷ xs) (y ∷ ys) l h =
+    ap (λ z. z ∷ xs) (some-same x y (h 0 (omega arith))) ∙ ap (λ zs. y ∷ zs) (same-lists xs ys (omega arith) (λ k m. h (suc k) (omega arith)))

@@ -1,10 +1,10 @@
 -- Checks and parts of lines, of which there come to be more.
-use Rattle.std.proofs.Common.{ℕ, ◌+◌, ◌<◌, ◌≤◌, ◌≡◌, inl, inr, List, [], ◌∷◌, ◌++◌, Some, length, get_or, slice_get, sym, ◌∙◌, ap, subst, arith, length-append, All}
+use Rattle.std.proofs.Common.{Option, None, MatchOption, ℕ, ◌+◌, ◌<◌, ◌≤◌, ◌≡◌, inl, inr, List, [], ◌∷◌, ◌++◌, Some, length, get_or, slice_get, sym, ◌∙◌, ap, subst, arith, length-append, All}
 use Rattle.std.proofs.lemmas.List.Elements.{All-cons}
 use Rattle.std.proofs.lemmas.Option.{slice_get-get_or, get_or_from_slice_get}
 use Rattle.pil_ast.specs.Term.{Term, Tuples, Line, identity, lookup, bus, Namespace}
 use Rattle.pil_ast.specs.Columns.{Columns}
-use Rattle.pil_ast.specs.Holds.{times}
+use Rattle.pil_ast.specs.Holds.{times, sent}
 use Rattle.pil_program.specs.declared.nodes.Node.{Node}
 use Rattle.pil_program.specs.declared.compiling.Program.{Program}
 use Rattle.instance_pass.specs.declared.senders.Sender.{Sender}
@@ -15,7 +15,7 @@ use Rattle.instance_pass.specs.Checks.{IsCheckOf, IsTabled}
 use Rattle.instance_pass.specs.Senders.{AllCompute, IsSenderOf, IsSenderIn}
 use Rattle.pil_checker.specs.declared.lines.Span.{Span}
 use Rattle.pil_checker.specs.Programs.{nodes_at, Grows}
-use Rattle.pil_checker.specs.Plans.{Extends, HaveParts, IsSpanOf, AreKnown, AreIdle}
+use Rattle.pil_checker.specs.Plans.{Extends, HasTable, IsTableOfCheck, HaveParts, IsSpanOf, AreKnown, AreIdle}
 use Rattle.pil_checker.proofs.Elements.{get-front, get-push}
 use Rattle.pil_checker.proofs.Grown.{computes-kept, sender-kept}
 
@@ -94,3 +94,16 @@ span-kept ns old new parts parts' x (bus ls rs) grows more h = (
   have-extended ns (nodes_at new) parts parts' x.middle rs more (have-grown ns old new parts x.middle rs grows h.4),
 )
 span-kept ns old new parts parts' x l grows more h = tt
+
+-- the table of a line of which it is known that its right side is some list
+pub table-known : (ns : List Namespace) (d : Columns) (nodes : ℕ → List Node) (tables : List (List (List ℕ))) (check : Check) (l : Line) (k : ℕ) (a b right : Tuples) → IsCheckOf ns nodes (length tables) check l → IsTabled ns d tables check l → IsTableOfCheck check k → l ≡ lookup a b → b ≡ right → HasTable ns d tables right k
+table-known ns d nodes tables (Among x n) l k a b right of tabled at is same =
+    let of' : IsCheckOf ns nodes (length tables) (Among x n) (lookup a b) = subst (IsCheckOf ns nodes (length tables) (Among x n)) is of in
+    let tabled' : IsTabled ns d tables (Among x n) (lookup a b) = subst (IsTabled ns d tables (Among x n)) is tabled in
+    ((let l = of'.0 in omega arith), λ t. ap (λ j. times t (get_or tables j [])) (sym at) ∙ tabled' t ∙ ap (λ y. times t (sent ns d y)) same)
+table-known ns d nodes tables (Equal t i j) l k a b right of tabled at is same = absurd at
+table-known ns d nodes tables Nothing l k a b right of tabled at is same = absurd at
+
+pub match-more : {X : Type 0} (o : Option X) (P Q : X → Type 0) → ((x : X) → P x → Q x) → MatchOption o (Unit {0}) P → MatchOption o (Unit {0}) Q
+match-more None P Q f h = tt
+match-more (Some x) P Q f h = f x h

@@ -1,13 +1,15 @@
 -- The lines of a text as checks and parts.
-use Rattle.std.specs.Prelude.{ℕ, ◌+◌, ◌<◌, ◌≤◌, ◌≡◌, List, [], ◌∷◌, Some, length, slice_get, All}
+use Rattle.std.specs.Prelude.{ℕ, ◌+◌, ◌<◌, ◌≤◌, ◌≡◌, List, [], ◌∷◌, Some, length, slice_get, slice_index_or, All}
 use Rattle.pil_ast.specs.Term.{Tuples, Line, identity, lookup, bus, Namespace, item_at}
 use Rattle.pil_ast.specs.Sound.{IsTerm}
-use Rattle.pil_ast.specs.Holds.{lines}
+use Rattle.pil_ast.specs.Columns.{Columns}
+use Rattle.pil_ast.specs.Holds.{times, sent, lines}
 use Rattle.pil_program.specs.declared.nodes.Node.{Node}
 use Rattle.pil_program.specs.Publics.{NoPublic}
 use Rattle.instance_pass.specs.declared.parts.Part.{Part}
 use Rattle.instance_pass.specs.Senders.{IsSenderOf}
 use Rattle.instance_pass.specs.declared.checks.Check.{Check}
+use Rattle.instance_pass.specs.declared.checks.Check.TheVariants.{Among}
 use Rattle.instance_pass.specs.Checks.{IsCheckOf}
 use Rattle.pil_checker.specs.declared.lines.Span.{Span}
 use Rattle.pil_checker.specs.declared.plans.Plan.{Plan}
@@ -24,6 +26,20 @@ IsLineOf ns (identity s a b) = (s < length ns) × IsTerm ns s a × IsTerm ns s b
 IsLineOf ns (lookup a b) = IsPlain ns a × IsPlain ns b
 IsLineOf ns (bus ls rs) = All (IsPlain ns) ls × All (IsPlain ns) rs
 IsLineOf ns _ = ⊥
+
+-- the table with number k has what a list sends
+abbrev pub HasTable : List Namespace → Columns → List (List (List ℕ)) → Tuples → ℕ → Type 0
+HasTable ns c tables b k = (k < length tables) × ((t : List ℕ) → times t (slice_index_or tables k []) ≡ times t (sent ns c b))
+
+-- it has what the right side of a line sends, if it is an `in`
+abbrev pub IsTableOf : List Namespace → Columns → List (List (List ℕ)) → Line → ℕ → Type 0
+IsTableOf ns c tables (lookup a b) k = HasTable ns c tables b k
+IsTableOf ns c tables _ k = Unit {0}
+
+-- a check looks into the table with number k
+abbrev pub IsTableOfCheck : Check → ℕ → Type 0
+IsTableOfCheck (Among x n) k = n ≡ k
+IsTableOfCheck _ k = ⊥
 
 -- the parts from number k on are those of some lists
 abbrev pub HaveParts : List Namespace → (ℕ → List Node) → List Part → ℕ → List Tuples → Type 0

@@ -7,6 +7,7 @@ mod lines;
 mod placing;
 mod plans;
 mod rights;
+mod sameness;
 mod whole;
 
 pub use checker::Checker;

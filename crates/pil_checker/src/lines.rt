@@ -1,11 +1,11 @@
 //! The lines of a text as checks and parts.
-ghost use Rattle.std.specs.Prelude.{◌≡◌, ◌+◌, ℕ, length, map, All, IfOk, OnOk};
+ghost use Rattle.std.specs.Prelude.{◌≡◌, ◌+◌, ℕ, length, map, All, IfOk, OnOk, MatchOption};
 ghost use Rattle.pil_ast.specs.Tree.{term, tuples as list_of, line as line_of, namespaces};
 ghost use Rattle.pil_ast.specs.Term.{identity, lookup};
 ghost use Rattle.pil_ast.specs.Columns.{Fits};
 ghost use Rattle.instance_pass.specs.Checks.{IsCheckOf, IsTabled};
 ghost use Rattle.pil_checker.specs.Programs.{ArePrograms, IsPlacing, IsPlain, nodes_at};
-ghost use Rattle.pil_checker.specs.Plans.{Extends, IsLineOf, IsSpanOf, HaveParts, AreIdle, AreKnown};
+ghost use Rattle.pil_checker.specs.Plans.{Extends, IsLineOf, IsSpanOf, HasTable, IsTableOf, HaveParts, AreIdle, AreKnown};
 
 use crate::placing::{place_in, place_list};
 use crate::rights::table_of;
@@ -42,34 +42,77 @@ fn place_identity(
     Ok(Check::Equal { space, left, right })
 }
 
-/// The check of an `in`, whose table is put at the end.
+/// The check of an `in`. Its table is one that is known, or is put at the end.
 fn place_lookup<C: InstanceColumns>(
     alloc: Global,
     pil: &Pil,
     columns: &C,
     left: &List,
     right: &List,
+    known: Option<usize>,
     programs: &mut Vec<Program>,
     tables: &mut Vec<Table>,
 ) -> Result<Check, AllocError>
     requires fits { Fits (namespaces pil.now) (C.values columns.now) }
     requires programs { ArePrograms (namespaces pil.now) programs.old.items }
     requires line { IsLineOf (namespaces pil.now) (lookup (list_of left.now) (list_of right.now)) }
+    requires known { MatchOption known (Unit {0}) (HasTable (namespaces pil.now) (C.values columns.now) tables.old.items (list_of right.now)) }
     ensures placing { OnOk result (IsPlacing (namespaces pil.now) programs.old.items programs.new.items) }
     ensures tables { OnOk result (Extends tables.old.items tables.new.items) }
     ensures check { IfOk result (λ check. IsCheckOf (namespaces pil.now) (nodes_at programs.new.items) (length tables.new.items) check (lookup (list_of left.now) (list_of right.now))) }
     ensures tabled { IfOk result (λ check. IsTabled (namespaces pil.now) (C.values columns.now) tables.new.items check (lookup (list_of left.now) (list_of right.now))) }
 {
     let from = place_list(alloc, pil, left, programs)?;
+    let table = table_for(alloc, pil, columns, right, known, programs, tables)?;
+    Ok(Check::Among { left: from, table })
+}
+
+/// The table of a list by number: one that is known, or one that is put at the end.
+fn table_for<C: InstanceColumns>(
+    alloc: Global,
+    pil: &Pil,
+    columns: &C,
+    right: &List,
+    known: Option<usize>,
+    programs: &mut Vec<Program>,
+    tables: &mut Vec<Table>,
+) -> Result<usize, AllocError>
+    requires fits { Fits (namespaces pil.now) (C.values columns.now) }
+    requires programs { ArePrograms (namespaces pil.now) programs.old.items }
+    requires list { IsPlain (namespaces pil.now) (list_of right.now) }
+    requires known { MatchOption known (Unit {0}) (HasTable (namespaces pil.now) (C.values columns.now) tables.old.items (list_of right.now)) }
+    ensures placing { OnOk result (IsPlacing (namespaces pil.now) programs.old.items programs.new.items) }
+    ensures tables { OnOk result (Extends tables.old.items tables.new.items) }
+    ensures table { IfOk result (HasTable (namespaces pil.now) (C.values columns.now) tables.new.items (list_of right.now)) }
+{
+    match known {
+        Some(number) => Ok(number),
+        None => push_table(alloc, pil, columns, right, programs, tables),
+    }
+}
+
+/// Puts the table of a list at the end, and says which it is.
+fn push_table<C: InstanceColumns>(
+    alloc: Global,
+    pil: &Pil,
+    columns: &C,
+    right: &List,
+    programs: &mut Vec<Program>,
+    tables: &mut Vec<Table>,
+) -> Result<usize, AllocError>
+    requires fits { Fits (namespaces pil.now) (C.values columns.now) }
+    requires programs { ArePrograms (namespaces pil.now) programs.old.items }
+    requires list { IsPlain (namespaces pil.now) (list_of right.now) }
+    ensures placing { OnOk result (IsPlacing (namespaces pil.now) programs.old.items programs.new.items) }
+    ensures tables { OnOk result (Extends tables.old.items tables.new.items) }
+    ensures table { IfOk result (HasTable (namespaces pil.now) (C.values columns.now) tables.new.items (list_of right.now)) }
+{
     let to = place_list(alloc, pil, right, programs)?;
     let nodes = programs[to.space as usize].as_slice();
     let table = table_of(alloc, pil, columns, nodes, &to)?;
     let number = tables.len();
     tables.push(table)?;
-    Ok(Check::Among {
-        left: from,
-        table: number,
-    })
+    Ok(number)
 }
 
 /// The check of a line.
@@ -78,12 +121,14 @@ pub fn place_check<C: InstanceColumns>(
     pil: &Pil,
     columns: &C,
     item: &Item,
+    known: Option<usize>,
     programs: &mut Vec<Program>,
     tables: &mut Vec<Table>,
 ) -> Result<Check, AllocError>
     requires fits { Fits (namespaces pil.now) (C.values columns.now) }
     requires programs { ArePrograms (namespaces pil.now) programs.old.items }
     requires line { IsLineOf (namespaces pil.now) (line_of item.now) }
+    requires known { MatchOption known (Unit {0}) (IsTableOf (namespaces pil.now) (C.values columns.now) tables.old.items (line_of item.now)) }
     ensures placing { OnOk result (IsPlacing (namespaces pil.now) programs.old.items programs.new.items) }
     ensures tables { OnOk result (Extends tables.old.items tables.new.items) }
     ensures check { IfOk result (λ check. IsCheckOf (namespaces pil.now) (nodes_at programs.new.items) (length tables.new.items) check (line_of item.now)) }
@@ -92,7 +137,9 @@ pub fn place_check<C: InstanceColumns>(
     match item {
         Item::Identity { space, left, right } => place_identity(pil, *space, left, right, programs),
         Item::Lookup { left, right } => {
-            place_lookup(alloc, pil, columns, left, right, programs, tables)
+            place_lookup(
+                alloc, pil, columns, left, right, known, programs, tables,
+            )
         }
         _ => Ok(Check::Nothing),
     }

@@ -1,17 +1,18 @@
 //! All lines of a text.
-ghost use Rattle.std.specs.Prelude.{◌≡◌, ◌+◌, ◌-◌, ◌≤◌, Some, length, slice_get, IfOk, OnOk};
-ghost use Rattle.pil_ast.specs.Tree.{line as line_of, namespaces};
-ghost use Rattle.pil_ast.specs.Columns.{Fits};
+ghost use Rattle.std.specs.Prelude.{◌≡◌, ◌+◌, ◌-◌, ◌<◌, ◌≤◌, ◌^◌, Some, length, slice_get, IfOk, OnOk, MatchOption};
+ghost use Rattle.pil_ast.specs.Tree.{line as line_of, tuples as list_of, namespaces};
+ghost use Rattle.pil_ast.specs.Columns.{Columns as Values, Fits};
 ghost use Rattle.pil_ast.specs.Sound.{IsSound};
 ghost use Rattle.pil_ast.specs.Holds.{lines};
 ghost use Rattle.pil_program.specs.Publics.{NoneIsNamed};
 ghost use Rattle.instance_pass.specs.Passes.{AreTabled};
-ghost use Rattle.pil_checker.specs.Plans.{IsLineOf, AreIdle, IsPlanUpTo, IsPlanOf};
+ghost use Rattle.pil_checker.specs.Plans.{IsLineOf, HasTable, IsTableOf, IsTableOfCheck, AreIdle, IsPlanUpTo, IsPlanOf};
 
 use crate::lines::{Span, place_check, place_span};
 use crate::placing::programs_of;
+use crate::sameness::same_list;
 use instance_pass::{Check, Part, Table};
-use pil_ast::{Columns, Item, Pil};
+use pil_ast::{Columns, Item, List, Pil};
 use pil_program::{InstanceColumns, Program};
 use std::alloc::{AllocError, Global};
 
@@ -29,7 +30,69 @@ pub struct Plan {
     pub parts: Vec<Part>,
 }
 
+/// The table of a check.
+fn table_of_check(check: &Check) -> Option<usize>
+    ensures { MatchOption result (Unit {0}) (IsTableOfCheck check.now) }
+{
+    match check {
+        Check::Among { left: _, table } => Some(*table),
+        _ => None,
+    }
+}
+
 impl Plan {
+    /// The table of an `in`, where the line with this number has a table of the same list.
+    fn table_at(&self, pil: &Pil, number: u32, right: &List) -> Option<usize>
+        requires sound { IsSound (namespaces pil.now) }
+        requires first { 1 ≤ number }
+        requires inside { number ≤ length self.now.checks.items }
+        requires planned { IsPlanUpTo (namespaces pil.now) self.now (length self.now.checks.items) }
+        ensures { MatchOption result (Unit {0}) (λ k. (d : Values) → AreTabled (namespaces pil.now) d self.now.tables.items self.now.checks.items → HasTable (namespaces pil.now) d self.now.tables.items (list_of right.now) k) }
+    {
+        match pil.line(number) {
+            Some(Item::Lookup {
+                left: _,
+                right: other,
+            }) => {
+                if same_list(other, right) {
+                    table_of_check(&self.checks[number as usize - 1])
+                } else {
+                    None
+                }
+            }
+            _ => None,
+        }
+    }
+
+    /// The table of an `in`, where an earlier line has a table of the same list.
+    fn known_list(&self, pil: &Pil, right: &List) -> Option<usize>
+        requires sound { IsSound (namespaces pil.now) }
+        requires few { length self.now.checks.items < 2 ^ 31 }
+        requires planned { IsPlanUpTo (namespaces pil.now) self.now (length self.now.checks.items) }
+        ensures { MatchOption result (Unit {0}) (λ k. (d : Values) → AreTabled (namespaces pil.now) d self.now.tables.items self.now.checks.items → HasTable (namespaces pil.now) d self.now.tables.items (list_of right.now) k) }
+    {
+        for before in 0..self.checks.len() {
+            match self.table_at(pil, before as u32 + 1, right) {
+                Some(table) => return Some(table),
+                None => {}
+            }
+        }
+        None
+    }
+
+    /// The table of a line, where an earlier line has it.
+    fn known_table(&self, pil: &Pil, item: &Item) -> Option<usize>
+        requires sound { IsSound (namespaces pil.now) }
+        requires few { length self.now.checks.items < 2 ^ 31 }
+        requires planned { IsPlanUpTo (namespaces pil.now) self.now (length self.now.checks.items) }
+        ensures { MatchOption result (Unit {0}) (λ k. (d : Values) → AreTabled (namespaces pil.now) d self.now.tables.items self.now.checks.items → IsTableOf (namespaces pil.now) d self.now.tables.items (line_of item.now) k) }
+    {
+        match item {
+            Item::Lookup { left: _, right } => self.known_list(pil, right),
+            _ => None,
+        }
+    }
+
     /// Puts a line at the end.
     fn push_item<C: InstanceColumns>(
         &mut self,
@@ -38,6 +101,8 @@ impl Plan {
         columns: &C,
         item: &Item,
     ) -> Result<(), AllocError>
+        requires sound { IsSound (namespaces pil.now) }
+        requires few { length self.old.checks.items < 2 ^ 31 }
         requires fits { Fits (namespaces pil.now) (C.values columns.now) }
         requires line { IsLineOf (namespaces pil.now) (line_of item.now) }
         requires next { slice_get (lines (namespaces pil.now)) (length self.old.checks.items) ≡ Some (line_of item.now) }
@@ -48,11 +113,13 @@ impl Plan {
         ensures tabled { OnOk result (AreTabled (namespaces pil.now) (C.values columns.now) self.new.tables.items self.new.checks.items) }
         ensures idle { OnOk result (AreIdle self.new.parts.items) }
     {
+        let known = self.known_table(pil, item);
         let check = place_check(
             alloc,
             pil,
             columns,
             item,
+            known,
             &mut self.programs,
             &mut self.tables,
         )?;

@@ -58,5 +58,5 @@ pub fn table_of<C: InstanceColumns>(
 {
     let mut blocks = vec![in alloc; Block::ZERO; nodes.len()]?;
     let tuples = send_all(alloc, pil, columns, nodes, sender, &mut blocks)?;
-    Ok(Table::new(tuples))
+    Table::new(alloc, tuples)
 }

@@ -5,3 +5,4 @@ pub mod Lanes
 pub mod Steps
 pub mod Exprs
 pub mod Inters
+pub mod Unnamed

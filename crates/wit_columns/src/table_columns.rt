@@ -8,6 +8,7 @@ ghost use Rattle.wit_columns.specs.Index.{starts_from};
 
 use gold::{Fe, Profile, Sequence, Shape, Table, Witness};
 use pil_ast::Columns;
+use pil_program::InstanceColumns;
 use std::alloc::{AllocError, Global};
 use std::marker::Model;
 
@@ -123,5 +124,12 @@ impl<'a> Columns for TableColumns<'a> {
         self.table(space, instance)
             .columns
             .at(column as usize, row as usize)
+    }
+}
+
+impl<'a> InstanceColumns for TableColumns<'a> {
+    #[inline]
+    fn column(&self, space: u32, instance: u32, column: u32) -> &[u64] {
+        self.table(space, instance).columns.as_slice()[column as usize].as_slice()
     }
 }

@@ -2,6 +2,7 @@ use Rattle.std.proofs.Common.{◌≡◌, ◌-◌, ◌<◌, slice_get, length, sy
 use Rattle.pil_ast.specs.Tree.{namespaces, line}
 use Rattle.pil_ast.specs.Holds.{lines}
 use Rattle.pil_laws.proofs.Lines.{item-there}
+use Rattle.pil_checker.proofs.Grown.{few-lines}
 use Rattle.pil_checker.proofs.Texts.{line-is}
 use Rattle.pil_checker.proofs.plans.Plan.push_line.Goals as goal
 
@@ -20,3 +21,10 @@ returns-in-None g c =
     let l = c.requires.inside in
     let fits : c.args.number - 1 < length (lines (namespaces c.args.pil.now)) = omega arith in
     absurd (item-there (lines (namespaces c.args.pil.now)) (c.args.number - 1) fits (sym c.in-None.ensures))
+
+pub push_item-requires-clause-few : goal.push_item-requires-clause-few
+push_item-requires-clause-few g c =
+    let few = few-lines (namespaces c.args.pil.now) c.requires.sound in
+    let e = c.requires.next in
+    let l = c.requires.inside in
+    omega arith
