@@ -328,13 +328,6 @@ RUN = [
         ("Main", "num 8 ⊗ STEP ⊕", "STEP ⊕", 5),
     ),
     edit(
-        "initial_memory_free",
-        "the run begins with memory of zeros in place of the image's",
-        "main_run::run_laws::bus",
-        ("text", "\n  + Init.SEL {Init.KEY, 0, 1, Init.LO, Init.HI}", ""),
-        ("Main", "accesses ++ Init.writes ∷ Out.reads ∷ []", "accesses ++ Out.reads ∷ []"),
-    ),
-    edit(
         "public_output_free",
         "the publics are any numbers",
         "main_run::run_laws::bus",
@@ -347,20 +340,6 @@ RUN = [
         "main_run::run_laws::bus",
         ("text", "(sel*wr) {536870912 + rd,", "sel {536870912 + rd,"),
         ("Main", "rows_with here (sel ⊗ wr) (", "rows_with here sel ("),
-    ),
-    edit(
-        "second_read_of_the_first_register",
-        "the second operand is the first register's value",
-        "main_run::run_laws::bus",
-        ("text", "{536870912 + rs2, 8*STEP + 2", "{536870912 + rs1, 8*STEP + 2"),
-        ("Main", "((num 536870912 ⊕ rs2) ∷", "((num 536870912 ⊕ rs1) ∷"),
-    ),
-    edit(
-        "store_of_the_old_doubleword",
-        "a store leaves memory as it was",
-        "main_run::run_laws::bus",
-        ("text", "{w, 8*STEP + 4, 1, mlo, mhi}", "{w, 8*STEP + 4, 1, olo, ohi}"),
-        ("Main", "num 4) ∷ num 1 ∷ mlo ∷ mhi", "num 4) ∷ num 1 ∷ olo ∷ ohi"),
     ),
 ]
 
