@@ -16,7 +16,7 @@ import tempfile
 from collections import Counter
 
 import forged  # its cases
-from forging import CASES, OUTPUT, P, REGISTERS, ROWS, Forgery
+from forging import CASES, OUTPUT, P, REGISTERS, Forgery
 
 INPUT = 0x40000000
 REFERENCE = re.compile(r"([A-Z][A-Za-z0-9]*\.[A-Za-z_]\w*(?:\[\d+\])?)('?)")
@@ -134,7 +134,8 @@ class Look:
         instance, place = divmod(row, self.length[air])
         last, goes_on = place == self.length[air] - 1, instance < self.count[air] - 1
         values = {"STEP": row, "INST": instance, "LAST": last, "L0": row == 0, "CLAST": last and goes_on,
-                  "CFIRST": place == 0 and instance > 0, "LEND": last and not goes_on, "ENTRY": self.entry * (row == 0)}  # fmt: skip
+                  "CFIRST": place == 0 and instance > 0, "LEND": last and not goes_on,
+                  "ENTRY": self.entry * (row == 0)}  # fmt: skip
         return int(values[name])
 
     def value(self, word, row):

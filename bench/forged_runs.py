@@ -516,6 +516,14 @@ def _(t):
     return uneven(20, (DATA // 8 - 1, 0, 1, 8, 0), 0, 1)
 
 
+@case("two output words exchanged", "lui x12, 0x50000; addi x11, x0, 7; sd x11, x12, 0")
+def _(t):
+    """The output in another order: Out's rows have their keys from the constants."""
+    t.put("Out", 1, lo=0)
+    t.put("Out", 2, lo=7)
+    return uneven(20, (OUTPUT // 8, END, 0, 0, 0), 1, 0)
+
+
 def output_case(word, name):
     @case(f"output word {word}, {name}", SUM)
     def _(t):

@@ -180,6 +180,15 @@ def _(t):
     return broken(153, 0, "Shift")
 
 
+@case("an amount's high limb", "addi x11, x0, 1; addi x12, x0, 3; it: sll x10, x11, x12")
+def _(t):
+    """A limb of p - 1, which no line of Shift reads: that it is one comes from what was written."""
+    t.put("Shift", 0, bhi=-1)
+    t.put("Main", 2, shi=-1)
+    t.settle()
+    return broken(34, t.access(8 * 2 + 2), "Mem")
+
+
 @case("the sign of a shift of 32 bits", "addi x11, x0, 1; addi x12, x0, 31; it: sllw x10, x11, x12")
 def _(t):
     """2^31 in place of -2^31."""
