@@ -1,14 +1,18 @@
 #!/usr/bin/env python3
-"""Hostile constraint texts and table files: what `zkw pil` says of each, in what time and with how much
-memory, beside the file's size.
+"""Hostile constraint texts and table files: what `zkw pil` and `zkw check` say of each, in what time and with how
+much memory, beside the file's size. Of a run's table file every front below 200 bytes and the last 200 are tried.
 
 Usage: hostile.py ZKW, the built program. Ends with 1 where an answer is another than the one named here.
 """
 import os
+import resource
 import struct
+import subprocess
 import sys
 import tempfile
 import time
+
+from forging import Program
 
 SIZE = 1 << 20
 HEAD = "namespace A(2); pol commit x; "
@@ -31,18 +35,21 @@ def numbered(text, line):
         parts.append(part)
 
 
-def run(program, pil, tables):
+def run(program, *words, memory=None):
+    """What the program says, in what time, with how much memory, and its status; with at most so much memory."""
     start = time.perf_counter()
     read, write = os.pipe()
     child = os.fork()
     if child == 0:
         os.dup2(write, 1)
-        os.execv(program, [program, "pil", pil, tables])
+        if memory:
+            resource.setrlimit(resource.RLIMIT_AS, (memory, memory))
+        os.execv(program, [program, *words])
     os.close(write)
     with os.fdopen(read) as pipe:
         said = pipe.read()
-    usage = os.wait4(child, 0)[2]
-    return said, time.perf_counter() - start, usage.ru_maxrss * 1024
+    status, usage = os.wait4(child, 0)[1:]
+    return said, time.perf_counter() - start, usage.ru_maxrss * 1024, os.waitstatus_to_exitcode(status)
 
 
 def header(*counts):
@@ -103,6 +110,61 @@ CHECKS = [
 ]
 
 
+GB = 10**9
+MOST = (1 << 20, 1 << 22, 1 << 20, 1 << 22, 1 << 22, 1 << 21, 1)
+MACHINE = struct.pack("<4I7I", 0x54574B5A, 2, 1, 7, *MOST)
+ONE_MAIN = MACHINE + struct.pack("<IIII", 0, 0, 37, 4096)
+# Each file of `check`: its front, its length with zeros behind that take no room on the disk, the memory that may
+# be used, what is said and the status.
+MACHINE_FILES = [
+    ("all instances promised, none there", MACHINE, len(MACHINE), GB, f"bad tables Short {len(MACHINE)}\n", 6),
+    ("all promised, one there", ONE_MAIN, len(ONE_MAIN) + 8 * 37 * 4096, GB, f"bad tables Short {len(ONE_MAIN) + 8 * 37 * 4096}\n", 6),
+    ("all promised, 500 MB of zeros", MACHINE, GB // 2, GB, "bad tables BadShape 52\n", 6),
+    ("500 MB of zeros", b"", GB // 2, GB, "bad tables BadMagic 0\n", 6),
+    ("10 GB of zeros, 1 GB of memory", b"", 10 * GB, GB, "", 10),
+    ("an empty file", b"", 0, GB, "bad tables Short 0\n", 6),
+]
+
+
+def check_files(program, folder):
+    """The files of `check`, and cut ones. Returns the number of wrong answers."""
+    elf, data, tables = (os.path.join(folder, "a" + end) for end in (".elf", ".input", ".tables"))
+    with open(elf, "wb") as file:
+        file.write(Program("addi x10, x0, 7; addi x17, x0, 93; ecall").elf)
+    open(data, "wb").close()
+    wrong = 0
+    for name, front, length, memory, wants, ends in MACHINE_FILES:
+        with open(tables, "wb") as file:
+            file.write(front)
+            file.truncate(length)
+        said, seconds, peak, status = run(program, "check", elf, data, tables, memory=memory)
+        ok = (said, status) == (wants, ends)
+        wrong += not ok
+        told = said.strip() or f"status {status}"
+        print(f"{name:34} {length:11} bytes {seconds:6.2f} s {peak / 1e6:7.1f} MB  {told}{'' if ok else '  WRONG, wants ' + wants}")
+    for name, path in (("a folder", folder), ("no file", os.path.join(folder, "nothing"))):
+        said, _, _, status = run(program, "check", elf, data, path)
+        wrong += (said, status) != ("", 9)
+        print(f"{name:34} status {status}{'' if (said, status) == ('', 9) else '  WRONG, wants 9'}")
+    return wrong + check_cut(program, elf, data, tables)
+
+
+def check_cut(program, elf, data, tables):
+    """A run's table file cut at each place below 200 and at each of the last 200. Returns the number of wrong answers."""
+    subprocess.run([program, "witness", elf, data, tables, "10", "0"], stdout=subprocess.DEVNULL, check=True)
+    with open(tables, "rb") as file:
+        whole = file.read()
+    wrong = 0
+    for length in [*range(len(whole) - 1, len(whole) - 201, -1), *range(200)]:
+        with open(tables, "wb") as file:
+            file.write(whole[:length])
+        said, _, _, status = run(program, "check", elf, data, tables)
+        if (said, status) != (f"bad tables Short {length}\n", 6):
+            wrong += 1
+            print(f"a run's tables cut at {length}: {said}")
+    return wrong
+
+
 def main():
     program = os.path.abspath(sys.argv[1])
     wrong = 0
@@ -116,7 +178,7 @@ def main():
                 file.write(data)
             with open(tables, "wb") as file:
                 file.write(table)
-            said, seconds, peak = run(program, pil, tables)
+            said, seconds, peak, _ = run(program, "pil", pil, tables)
             ok = said == wants if wants else said != ""
             wrong += not ok
             size = len(data) + len(table)
@@ -133,17 +195,18 @@ def main():
                 file.write(SMALL)
             with open(tables, "wb") as file:
                 file.write(TABLES[:length])
-            said = run(program, pil, tables)[0]
+            said = run(program, "pil", pil, tables)[0]
             if said != f"bad tables Short {length}\n":
                 wrong += 1
                 print(f"tables cut at {length}: {said}")
         for length in range(len(SMALL)):
             with open(pil, "w") as file:
                 file.write(SMALL[:length])
-            said = run(program, pil, tables)[0]
+            said = run(program, "pil", pil, tables)[0]
             if not said.startswith(("bad pil ", "bad tables ")):
                 wrong += 1
                 print(f"text cut at {length}: {said}")
+        wrong += check_files(program, folder)
     print(f"{wrong} wrong")
     sys.exit(1 if wrong else 0)
 
