@@ -2,7 +2,7 @@
 """Runs the commands of README.md's blocks in a copy of this folder, and compares what they print and how they end.
 
 Usage: run.py [PROGRAM], the program that stands for ../zkw. Ends with 1 where something differs.
-Blocks that begin with ```later are passed over.
+Blocks that begin with ```later are passed over: they are of commands to come.
 """
 import os
 import re
