@@ -1,5 +1,6 @@
 //! Checks tables against a constraint text, and says how long it took: `check_bench PIL TABLES [landed]`.
 #![tactic(auto)]
+
 ghost use Rattle.std.specs.Prelude.{◌≡◌, true};
 ghost use Rattle.pil_ast.specs.Tree.{namespaces};
 ghost use Rattle.pil_ast.specs.Columns.{Fits};

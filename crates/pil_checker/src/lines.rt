@@ -137,9 +137,7 @@ pub fn place_check<C: InstanceColumns>(
     match item {
         Item::Identity { space, left, right } => place_identity(pil, *space, left, right, programs),
         Item::Lookup { left, right } => {
-            place_lookup(
-                alloc, pil, columns, left, right, known, programs, tables,
-            )
+            place_lookup(alloc, pil, columns, left, right, known, programs, tables)
         }
         _ => Ok(Check::Nothing),
     }

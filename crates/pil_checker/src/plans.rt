@@ -50,10 +50,12 @@ impl Plan {
         ensures { MatchOption result (Unit {0}) (λ k. (d : Values) → AreTabled (namespaces pil.now) d self.now.tables.items self.now.checks.items → HasTable (namespaces pil.now) d self.now.tables.items (list_of right.now) k) }
     {
         match pil.line(number) {
-            Some(Item::Lookup {
-                left: _,
-                right: other,
-            }) => {
+            Some(
+                Item::Lookup {
+                    left: _,
+                    right: other,
+                },
+            ) => {
                 if same_list(other, right) {
                     table_of_check(&self.checks[number as usize - 1])
                 } else {

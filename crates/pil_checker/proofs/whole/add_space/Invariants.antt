@@ -8,5 +8,5 @@ invariant-loop-instance g l = record {
   built : IsBuilt (namespaces l.pil) l.checker;
   stands : StandsFor (namespaces l.pil) (g.C.Columns.values l.columns) l.checker;
   here : added l.checker l.space ≡ l.instance;
-  elsewhere : (t : ℕ) → t ≢ l.space → added l.checker t ≡ added l.fn.checker t
+  elsewhere : (t : ℕ) → t ≢ l.space → added l.checker t ≡ added l.fn.checker t;
 }

@@ -8,5 +8,5 @@ invariant-loop-space g l = record {
   built : IsBuilt (namespaces l.pil) l.checker;
   stands : StandsFor (namespaces l.pil) (g.C.Columns.values l.columns) l.checker;
   done : (t : ℕ) → t < l.space → added l.checker t ≡ (g.C.Columns.values l.columns).instances t;
-  rest : (t : ℕ) → l.space ≤ t → added l.checker t ≡ 0
+  rest : (t : ℕ) → l.space ≤ t → added l.checker t ≡ 0;
 }
