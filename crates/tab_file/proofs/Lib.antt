@@ -9,3 +9,7 @@ pub mod Again
 pub mod Exclusive
 pub mod Heights
 pub mod OfFile
+pub mod Pieces
+pub mod Cursor
+pub mod Grown
+pub mod Values

@@ -1,4 +1,6 @@
 pub mod Format
 pub mod Items
+pub mod Parts
+pub mod Pieces
 pub mod Reading
 pub mod Steps

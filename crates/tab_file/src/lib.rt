@@ -2,10 +2,12 @@
 //! format 2 as its form says.
 #![tactic(auto)]
 
+mod coming;
 mod fault;
 mod fields;
 pub mod laws;
 mod numbers;
+mod partial;
 mod reading;
 mod writing;
 

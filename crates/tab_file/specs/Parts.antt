@@ -1,0 +1,122 @@
+-- How far a reader by pieces is in a file. Only contracts of private functions speak of it.
+use Rattle.std.specs.Prelude.{◌≡◌, ◌≢◌, ℕ, zero, suc, ◌+◌, ◌-◌, ◌*◌, ◌<◌, ◌≤◌, ◌⊎◌, List, [], ◌∷◌, ◌++◌, length, replicate, drop, Result, MatchResult, Option, MatchOption, None, Some}
+use Rattle.std.specs.Int.{w32, w64}
+use Rattle.gold.specs.declared.instances.Table.{Table}
+use Rattle.gold.specs.declared.shapes.AirShape.{AirShape}
+use Rattle.gold.specs.declared.shapes.Shape.{Shape}
+use Rattle.gold.specs.Shapes.{Place, instances_from, places_from}
+use Rattle.tab_file.specs.declared.fault.TabErr.{TabErr}
+use Rattle.tab_file.specs.declared.fault.TabKind.TheVariants.{Short, BadOrder, BadShape}
+use Rattle.tab_file.specs.declared.coming.Due.{Due}
+use Rattle.tab_file.specs.declared.coming.Coming.{Coming}
+use Rattle.tab_file.specs.declared.partial.Partial.{Partial}
+use Rattle.tab_file.specs.Items.{Item, number_at, exactly, air_item, value_item, instance_items}
+use Rattle.tab_file.specs.Reading.{numbers_from}
+use Rattle.tab_file.specs.Steps.{Pass, Fail, columns_from, table_at, instance_len, place}
+
+-- ---- the instances that are still to come
+
+-- the place of the instance that is due
+abbrev pub place_of : Due → Place
+place_of due = place due.number due.form due.instance
+
+-- of these airs, the first of which is a: the instances from the number i of air a on
+abbrev pub left_of : List AirShape → List ℕ → ℕ → ℕ → List Place
+left_of [] counts a i = []
+left_of (f ∷ fs) [] a i = []
+left_of (f ∷ fs) (c ∷ cs) a i = instances_from a f i (c - i) ++ places_from (suc a) fs cs
+
+abbrev pub left : Coming → List Place
+left c = left_of (drop c.number c.airs.items) (drop c.number c.counts.items) c.number c.instance
+
+-- ---- an instance of which a part has come
+
+-- the four numbers that an instance begins with, by their number
+abbrev pub head_item : ℕ → Place → ℕ → Item
+head_item airs p zero = air_item airs p.air
+head_item airs p (suc zero) = exactly p.instance BadOrder 4
+head_item airs p (suc (suc zero)) = exactly p.form.columns BadShape 0
+head_item airs p (suc (suc (suc k))) = exactly p.form.rows BadShape 0
+
+-- the first so many of them
+abbrev pub head_items : ℕ → Place → ℕ → List Item
+head_items airs p zero = []
+head_items airs p (suc k) = head_items airs p k ++ head_item airs p k ∷ []
+
+-- how many values have passed
+abbrev pub values_so_far : Partial → ℕ
+values_so_far g = length g.columns * g.due.form.rows + length g.column
+
+-- the instance of a place begins at an offset of the file; what of it has come has passed, but for the last
+-- bytes, which aren't a whole item yet. These and the rest are all bytes of the file that aren't passed yet
+pub record Grows (file : List ℕ) (begin n : ℕ) (p : Place) (g : Partial) (rest : List ℕ) : Type 0 where
+  pub airs : g.due.airs ≡ n
+  pub place : place_of g.due ≡ p
+  pub heads : g.heads ≤ 4
+  pub early : g.heads < 4 → values_so_far g ≡ 0
+  pub most : length g.columns ≤ g.due.form.columns
+  pub rows : length g.column ≤ g.due.form.rows
+  pub over : g.due.form.columns ≤ length g.columns → length g.column ≡ 0
+  pub passed : Pass file begin (head_items n p g.heads ++ replicate (values_so_far g) value_item) g.at
+  pub next : g.at ≡ begin + 4 * g.heads + 8 * values_so_far g
+  pub air : 0 < g.heads → g.air ≡ number_at w32 file begin
+  pub instance : 1 < g.heads → g.due.instance ≡ number_at w32 file (begin + 4)
+  pub columns : g.columns ≡ columns_from file (begin + 16) (length g.columns) g.due.form.rows
+  pub column : g.column ≡ numbers_from w64 file (begin + 16 + 8 * (length g.columns * g.due.form.rows)) (length g.column)
+  pub head_part : g.heads < 4 → length g.part.items ≤ 4
+  pub value_part : length g.part.items ≤ 8
+  pub busy : 0 < length g.part.items → (g.heads < 4) ⊎ ((length g.columns < g.due.form.columns) × (length g.column < g.due.form.rows))
+  pub ahead : drop g.at file ≡ g.part.items ++ rest
+
+-- an item of the instance fails, and not since it isn't whole, or memory ran out
+pub record Fails (file : List ℕ) (begin : ℕ) (items : List Item) (e : TabErr) : Type 0 where
+  pub kind : e.kind ≢ Short
+  pub fail : Fail file begin items e
+
+-- from one state to another, by so many bytes of a piece
+abbrev pub Takes : Partial → Partial → List ℕ → Result ℕ TabErr → Type 0
+Takes old new piece result =
+    (file : List ℕ) (begin n : ℕ) (p : Place) (more : List ℕ) → Grows file begin n p old (piece ++ more)
+    → MatchResult result (λ k. Grows file begin n p new (drop k piece ++ more)) (λ e. Fails file begin (instance_items n p) e)
+
+-- so many values that stand at an offset have passed, and were added to a column
+pub record Adds (file : List ℕ) (at count : ℕ) (old new : List ℕ) : Type 0 where
+  pub values : new ≡ old ++ numbers_from w64 file at count
+  pub pass : Pass file at (replicate count value_item) (at + 8 * count)
+
+-- all its items have passed
+pub record IsWhole (g : Partial) : Type 0 where
+  pub heads : 4 ≤ g.heads
+  pub columns : g.due.form.columns ≤ length g.columns
+
+-- only values of the next column came
+pub record SameInstance (g h : Partial) : Type 0 where
+  pub due : h.due ≡ g.due
+  pub heads : h.heads ≡ g.heads
+  pub columns : h.columns ≡ g.columns
+
+-- the instance that has come whole is the table, and the bytes after it are the rest
+pub record IsTableAt (file : List ℕ) (begin n : ℕ) (p : Place) (t : Table) (g : Partial) (rest : List ℕ) : Type 0 where
+  pub table : t ≡ table_at file begin p
+  pub pass : Pass file begin (instance_items n p) g.at
+  pub end : g.at ≡ begin + instance_len p
+  pub part : g.part.items ≡ []
+  pub ahead : drop g.at file ≡ rest
+
+-- the next item isn't whole
+pub record WaitsForHead (g : Partial) : Type 0 where
+  pub heads : g.heads < 4
+  pub part : length g.part.items < 4
+
+pub record WaitsForValue (g : Partial) : Type 0 where
+  pub heads : 4 ≤ g.heads
+  pub columns : length g.columns < g.due.form.columns
+  pub rows : length g.column < g.due.form.rows
+  pub part : length g.part.items < 8
+
+abbrev pub Waits : Partial → Type 0
+Waits g = WaitsForHead g ⊎ WaitsForValue g
+
+-- the offset of what comes next
+abbrev pub reach : Partial → ℕ
+reach g = g.at + length g.part.items
