@@ -15,7 +15,7 @@ use Rattle.tab_file.specs.Reading.{numbers_from}
 use Rattle.tab_file.specs.Steps.{Pass, Fail, columns_from, out_of_memory}
 use Rattle.tab_file.specs.Parts.{place_of, head_item, head_items, values_so_far, Grows, Fails, Adds}
 use Rattle.tab_file.proofs.Going.{Pass-none, Pass-then, Pass-fail, Fail-then, Pass-more, Fail-more, numbers_from-more, length-numbers_from}
-use Rattle.tab_file.proofs.Pieces.{drop_on, long_enough, number_in_piece, Pass-item, Fail-item, wrong_item, value_right, value_wrong}
+use Rattle.tab_file.proofs.InPiece.{drop_on, long_enough, number_in_piece, Pass-item, Fail-item, wrong_item, value_right, value_wrong}
 
 -- ---- values
 

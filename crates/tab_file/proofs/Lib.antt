@@ -9,7 +9,9 @@ pub mod Again
 pub mod Exclusive
 pub mod Heights
 pub mod OfFile
-pub mod Pieces
+pub mod InPiece
 pub mod Cursor
 pub mod Grown
 pub mod Values
+pub mod Bodies
+pub mod Extends

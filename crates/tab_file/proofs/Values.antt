@@ -13,7 +13,7 @@ use Rattle.tab_file.specs.Reading.{numbers_from}
 use Rattle.tab_file.specs.Steps.{Pass, Fail, columns_from, table_at, instance_len}
 use Rattle.tab_file.specs.Parts.{place_of, head_items, values_so_far, Grows, Fails, Adds, IsWhole, IsTableAt}
 use Rattle.tab_file.proofs.Going.{Pass-then, Pass-fail, Fail-then, columns_from-more, length-numbers_from}
-use Rattle.tab_file.proofs.Pieces.{drop_on}
+use Rattle.tab_file.proofs.InPiece.{drop_on}
 use Rattle.tab_file.proofs.Grown.{whole_head, SameButPart, part_grows}
 
 numbers_from-append : (w : Width) (file : List ℕ) (at a b : ℕ) → numbers_from w file at (a + b) ≡ numbers_from w file at a ++ numbers_from w file (at + a * byte_len w) b
@@ -198,7 +198,7 @@ table_whole file begin n q g rest t s w air instance columns =
 -- ---- a piece of values
 
 -- what is left of a piece, as a slice of it reads
-rest_of : (piece : List ℕ) (d : ℕ) → take (length piece - d) (drop d piece) ≡ drop d piece
+pub rest_of : (piece : List ℕ) (d : ℕ) → take (length piece - d) (drop d piece) ≡ drop d piece
 rest_of piece d = take_all (length piece - d) (drop d piece) (omega (arith, length-drop d piece))
 
 -- the part isn't empty, so a value is wanted

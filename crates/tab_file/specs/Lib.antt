@@ -3,4 +3,5 @@ pub mod Items
 pub mod Parts
 pub mod Pieces
 pub mod Reading
+pub mod Stands
 pub mod Steps

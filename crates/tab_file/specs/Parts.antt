@@ -1,18 +1,19 @@
 -- How far a reader by pieces is in a file. Only contracts of private functions speak of it.
-use Rattle.std.specs.Prelude.{◌≡◌, ◌≢◌, ℕ, zero, suc, ◌+◌, ◌-◌, ◌*◌, ◌<◌, ◌≤◌, ◌⊎◌, List, [], ◌∷◌, ◌++◌, length, replicate, drop, Result, MatchResult, Option, MatchOption, None, Some}
+use Rattle.std.specs.Prelude.{◌≡◌, ◌≢◌, ℕ, zero, suc, ◌+◌, ◌-◌, ◌*◌, ◌<◌, ◌≤◌, ◌⊎◌, List, [], ◌∷◌, ◌++◌, length, replicate, drop, Result, MatchResult, Option, MatchOption, MatchBool, if◌then◌else◌, None, Some}
 use Rattle.std.specs.Int.{w32, w64}
 use Rattle.gold.specs.declared.instances.Table.{Table}
 use Rattle.gold.specs.declared.shapes.AirShape.{AirShape}
 use Rattle.gold.specs.declared.shapes.Shape.{Shape}
-use Rattle.gold.specs.Shapes.{Place, instances_from, places_from}
+use Rattle.gold.specs.Shapes.{Place, is_machine, instances_from, places_from}
 use Rattle.tab_file.specs.declared.fault.TabErr.{TabErr}
 use Rattle.tab_file.specs.declared.fault.TabKind.TheVariants.{Short, BadOrder, BadShape}
 use Rattle.tab_file.specs.declared.coming.Due.{Due}
 use Rattle.tab_file.specs.declared.coming.Coming.{Coming}
 use Rattle.tab_file.specs.declared.partial.Partial.{Partial}
-use Rattle.tab_file.specs.Items.{Item, number_at, exactly, air_item, value_item, instance_items}
-use Rattle.tab_file.specs.Reading.{numbers_from}
-use Rattle.tab_file.specs.Steps.{Pass, Fail, columns_from, table_at, instance_len, place}
+use Rattle.tab_file.specs.declared.body.Body.{Body}
+use Rattle.tab_file.specs.Items.{Item, number_at, exactly, air_item, value_item, instance_items, count_items, places_items, first_failure}
+use Rattle.tab_file.specs.Reading.{numbers_from, front_items, front_end, promised_airs}
+use Rattle.tab_file.specs.Steps.{Pass, Fail, out_of_memory, columns_from, table_at, tables_from, places_len, instance_len, place}
 
 -- ---- the instances that are still to come
 
@@ -120,3 +121,47 @@ Waits g = WaitsForHead g ⊎ WaitsForValue g
 -- the offset of what comes next
 abbrev pub reach : Partial → ℕ
 reach g = g.at + length g.part.items
+
+-- ---- the instances
+
+-- the places that are left, the one of the instance that has begun first
+abbrev pub places_left : Body → List Place
+places_left b = if b.going then place_of b.partial.due ∷ left b.coming else []
+
+-- all instances before have passed
+pub record Done (file : List ℕ) (n start begin : ℕ) (done : List Place) (so_far : List Table) : Type 0 where
+  pub begin_is : begin ≡ start + places_len done
+  pub tables : so_far ≡ tables_from file start done
+  pub pass : Pass file start (places_items n done) begin
+
+-- what stands at an offset, from which on the rest is all bytes of the file that haven't come: the instance that has
+-- begun, or none
+abbrev pub StandsAt : List ℕ → ℕ → ℕ → Body → List ℕ → Type 0
+StandsAt file begin n b rest =
+    MatchBool b.going (Grows file begin n (place_of b.partial.due) b.partial rest)
+    ((b.partial.at ≡ begin) × (b.partial.part.items ≡ []) × (drop begin file ≡ rest))
+
+-- of the instances of the places, the first of which begins at start, those so far have come whole
+pub record BodyAt (file : List ℕ) (n start : ℕ) (ps : List Place) (so_far : List Table) (rest : List ℕ) (b : Body) : Type 0 where
+  pub airs : n ≡ length b.coming.airs.items
+  pub begin : ℕ
+  pub before : List Place
+  pub places : ps ≡ before ++ places_left b
+  pub done : Done file n start begin before so_far
+  pub now : StandsAt file begin n b rest
+
+-- an item of the instances fails, or a byte follows them
+pub record BodyFails (file : List ℕ) (n start : ℕ) (ps : List Place) (e : TabErr) : Type 0 where
+  pub kind : e.kind ≢ Short
+  pub fail : e ≢ out_of_memory → first_failure file start (places_items n ps) ≡ Some e
+
+-- ---- the header
+
+-- the front of a header passes, and a number of instances fails
+pub record CountsFail (bytes : List ℕ) (shape : Shape) (e : TabErr) : Type 0 where
+  pub pass : Pass bytes 0 (front_items shape.form (length shape.airs)) (front_end shape.form)
+  pub fail : Fail bytes (front_end shape.form) (count_items (is_machine shape.form) 0 (promised_airs bytes shape)) e
+
+-- an item of the header fails, or isn't whole
+abbrev pub HeaderFails : List ℕ → Shape → TabErr → Type 0
+HeaderFails bytes shape e = Fail bytes 0 (front_items shape.form (length shape.airs)) e ⊎ CountsFail bytes shape e

@@ -23,6 +23,12 @@ profile_items Plain = []
 profile_items One = []
 profile_items Two = exactly 0x5457_4b5a BadMagic 0 ∷ version_items Two
 
+-- the offset after them
+abbrev pub profile_end : Form → ℕ
+profile_end Plain = 0
+profile_end One = 0
+profile_end Two = 12
+
 -- the profile has come and passed; in format 1 it is known from the start
 abbrev pub ProfileHasCome : List ℕ → Form → Type 0
 ProfileHasCome bytes form = AllPass bytes 0 (profile_items form)

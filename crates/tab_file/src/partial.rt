@@ -1,5 +1,5 @@
 //! An instance of which a part has come.
-ghost use Rattle.std.specs.Prelude.{◌≡◌, ◌≢◌, ℕ, ◌<◌, ◌≤◌, ◌+◌, ◌-◌, ◌*◌, ◌/◌, ◌^◌, ◌++◌, ◌⊎◌, [], List, length, take, drop, replicate, IfOk, OnOk, MatchOption, MatchResult, IsTrue, ◌↔◌, None, Some};
+ghost use Rattle.std.specs.Prelude.{◌≡◌, ◌≢◌, ℕ, ◌<◌, ◌≤◌, ◌+◌, ◌-◌, ◌*◌, ◌/◌, ◌^◌, ◌++◌, ◌⊎◌, [], List, length, take, drop, replicate, IfOk, OnOk, MatchOption, MatchResult, MatchBool, None, Some};
 ghost use Rattle.std.specs.Int.{w32, w64};
 ghost use Rattle.gold.specs.Field.{p};
 ghost use Rattle.gold.specs.Shapes.{Place};
@@ -11,7 +11,7 @@ ghost use Rattle.tab_file.specs.Parts.{place_of, head_item, Grows, Fails, Takes,
 
 use crate::coming::Due;
 use crate::fault::{TabErr, TabKind};
-use gold::{Column, Columns, Fe, Table};
+use gold::{AirShape, Column, Columns, Fe, Table};
 use std::alloc::{AllocError, Global};
 use std::mem;
 
@@ -154,6 +154,33 @@ fn air_after(heads: u32, air: u32, number: u32) -> u32
 }
 
 impl Partial {
+    /// No instance, at an offset.
+    pub(crate) fn none(alloc: Global, at: u64) -> Partial
+        ensures at { result.at ≡ at }
+        ensures part { result.part.items ≡ [] }
+    {
+        let form = AirShape {
+            rows: 0,
+            columns: 0,
+            most: 0,
+        };
+        Partial {
+            alloc,
+            due: Due {
+                airs: 0,
+                number: 0,
+                instance: 0,
+                form,
+            },
+            air: 0,
+            heads: 0,
+            columns: Columns::new(alloc),
+            column: Column::new(alloc),
+            at,
+            part: Vec::new(alloc),
+        }
+    }
+
     /// An instance that is to begin at an offset, of which nothing has come.
     pub(crate) fn new(alloc: Global, due: Due, at: u64) -> Result<Partial, AllocError>
         ensures due { IfOk result (λ g. g.due ≡ due) }
@@ -180,9 +207,17 @@ impl Partial {
         self.at
     }
 
+    /// The offset in the file after all that has come.
+    pub(crate) fn reach(&self) -> u64
+        requires { reach self.now < 2 ^ 64 }
+        ensures { result ≡ reach self.now }
+    {
+        self.at + self.part.len() as u64
+    }
+
     /// Whether all of it has come.
     pub(crate) fn is_whole(&self) -> bool
-        ensures whole { IsTrue result ↔ IsWhole self.now }
+        ensures { MatchBool result (IsWhole self.now) (IsWhole self.now → ⊥) }
     {
         self.heads >= HEADS && self.columns.len() >= self.due.form.columns as usize
     }
@@ -365,10 +400,11 @@ impl Partial {
     pub(crate) fn take_table(&mut self) -> Table
         requires { IsWhole self.old }
         ensures at { self.new.at ≡ self.old.at }
-        ensures part { self.new.part.items ≡ self.old.part.items }
+        ensures part { self.new.part.items ≡ [] }
         ensures table { (file : List ℕ) (begin n : ℕ) (p : Place) (more : List ℕ) → Grows file begin n p self.old more → IsTableAt file begin n p result self.old more }
     {
         let columns = mem::replace(&mut self.columns, Columns::new(self.alloc));
+        self.part.clear();
         Table {
             air: self.air,
             instance: self.due.instance,
