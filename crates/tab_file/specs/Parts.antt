@@ -6,7 +6,9 @@ use Rattle.gold.specs.declared.shapes.AirShape.{AirShape}
 use Rattle.gold.specs.declared.shapes.Shape.{Shape}
 use Rattle.gold.specs.Shapes.{Place, is_machine, instances_from, places_from}
 use Rattle.tab_file.specs.declared.fault.TabErr.{TabErr}
-use Rattle.tab_file.specs.declared.fault.TabKind.TheVariants.{Short, BadOrder, BadShape}
+use Rattle.tab_file.specs.declared.fault.TabKind.TheVariants.{Short, BadOrder, BadShape, NoMemory}
+use Rattle.tab_file.specs.Pieces.{profile_items}
+use Rattle.gold.specs.declared.shapes.Form.{Form}
 use Rattle.tab_file.specs.declared.coming.Due.{Due}
 use Rattle.tab_file.specs.declared.coming.Coming.{Coming}
 use Rattle.tab_file.specs.declared.partial.Partial.{Partial}
@@ -165,3 +167,9 @@ pub record CountsFail (bytes : List ℕ) (shape : Shape) (e : TabErr) : Type 0 w
 -- an item of the header fails, or isn't whole
 abbrev pub HeaderFails : List ℕ → Shape → TabErr → Type 0
 HeaderFails bytes shape e = Fail bytes 0 (front_items shape.form (length shape.airs)) e ⊎ CountsFail bytes shape e
+
+-- an item up to the profile fails, or isn't whole
+pub record ProfileFails (bytes : List ℕ) (form : Form) : Type 0 where
+  pub failure : TabErr
+  pub item : failure.kind ≢ NoMemory
+  pub fail : Fail bytes 0 (profile_items form) failure

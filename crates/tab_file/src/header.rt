@@ -1,10 +1,10 @@
 //! The header of a file, which may not have come whole.
-ghost use Rattle.std.specs.Prelude.{◌≡◌, ◌≢◌, length, IfOk, IfErr};
+ghost use Rattle.std.specs.Prelude.{◌≡◌, ◌≢◌, length, IfOk, IfErr, MatchOption};
 ghost use Rattle.tab_file.specs.declared.fault.TabKind.TheVariants.{NoMemory};
 ghost use Rattle.tab_file.specs.Reading.{promised_profile, promised_airs, promised_counts};
 ghost use Rattle.tab_file.specs.Steps.{Pass, Fail};
 ghost use Rattle.tab_file.specs.Pieces.{profile_items, profile_end, header_items, header_end};
-ghost use Rattle.tab_file.specs.Parts.{HeaderFails};
+ghost use Rattle.tab_file.specs.Parts.{HeaderFails, ProfileFails};
 
 use crate::fault::{TabErr, TabKind};
 use crate::fields::expect;
@@ -25,7 +25,7 @@ pub(crate) struct Header {
 }
 
 /// The profile that a file tells whose first bytes these are.
-pub(crate) fn profile_in(bytes: &[u8], form: Form) -> Result<Profile, TabErr>
+fn profile_in(bytes: &[u8], form: Form) -> Result<Profile, TabErr>
     ensures profile { IfOk result (λ p. p ≡ promised_profile bytes.now form) }
     ensures pass { IfOk result (λ _. Pass bytes.now 0 (profile_items form) (profile_end form)) }
     ensures fail { IfErr result (Fail bytes.now 0 (profile_items form)) }
@@ -53,4 +53,14 @@ pub(crate) fn header_in(alloc: Global, bytes: &[u8], shape: &Shape) -> Result<He
     let airs = airs_in(alloc, shape, profile)?;
     let (counts, end) = counts(alloc, bytes, start, shape.form.is_machine(), &airs)?;
     Ok(Header { airs, counts, end })
+}
+
+/// The profile that a file tells whose first bytes these are: None where it hasn't come, or an item before it fails.
+pub(crate) fn profile_so_far(bytes: &[u8], form: Form) -> Option<Profile>
+    ensures { MatchOption result (ProfileFails bytes.now form) (λ p. (p ≡ promised_profile bytes.now form) × Pass bytes.now 0 (profile_items form) (profile_end form)) }
+{
+    match profile_in(bytes, form) {
+        Ok(profile) => Some(profile),
+        Err(_) => None,
+    }
 }
