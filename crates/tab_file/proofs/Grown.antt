@@ -51,7 +51,7 @@ Adds-fail file bytes more at count total old now le stands room lt above adds =
 
 -- ---- the four numbers at the beginning
 
-width_of_head : (n : ℕ) (q : Place) (h : ℕ) → (head_item n q h).width ≡ w32
+pub width_of_head : (n : ℕ) (q : Place) (h : ℕ) → (head_item n q h).width ≡ w32
 width_of_head n q zero = refl
 width_of_head n q (suc zero) = refl
 width_of_head n q (suc (suc zero)) = refl

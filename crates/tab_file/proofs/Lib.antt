@@ -15,3 +15,6 @@ pub mod Grown
 pub mod Values
 pub mod Bodies
 pub mod Extends
+pub mod Readers
+pub mod Feeding
+pub mod Headers

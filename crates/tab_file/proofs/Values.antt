@@ -36,11 +36,11 @@ pub record ValuesTaken (g h : Partial) (file : List ℕ) (count : ℕ) : Type 0 
   pub part : h.part.items ≡ []
   pub adds : Adds file g.at count g.column h.column
 
-abbrev size : Partial → ℕ
+abbrev pub size : Partial → ℕ
 size g = g.due.form.columns * g.due.form.rows
 
 -- where a value is wanted, so many values at most are
-wanted : (file : List ℕ) (begin n : ℕ) (q : Place) (g : Partial) (rest : List ℕ) (count : ℕ) → Grows file begin n q g rest → length g.columns < g.due.form.columns → length g.column + count ≤ g.due.form.rows
+pub wanted : (file : List ℕ) (begin n : ℕ) (q : Place) (g : Partial) (rest : List ℕ) (count : ℕ) → Grows file begin n q g rest → length g.columns < g.due.form.columns → length g.column + count ≤ g.due.form.rows
     → values_so_far g + count ≤ size g
 wanted file begin n q g rest count s lt le =
     let below : length g.columns + 1 ≤ g.due.form.columns = omega (arith, lt) in
@@ -48,7 +48,7 @@ wanted file begin n q g rest count s lt le =
     let more : (length g.columns + 1) * g.due.form.rows ≡ length g.columns * g.due.form.rows + g.due.form.rows = omega arith in
     omega (arith, le, product, more)
 
-place_size : (file : List ℕ) (begin n : ℕ) (q : Place) (g : Partial) (rest : List ℕ) → Grows file begin n q g rest → size g ≡ q.form.columns * q.form.rows
+pub place_size : (file : List ℕ) (begin n : ℕ) (q : Place) (g : Partial) (rest : List ℕ) → Grows file begin n q g rest → size g ≡ q.form.columns * q.form.rows
 place_size file begin n q g rest s = ap (λ (r : Place). r.form.columns * r.form.rows) s.place
 
 pub values_fail : (file : List ℕ) (begin n : ℕ) (q : Place) (g : Partial) (rest : List ℕ) (count : ℕ) (e : TabErr) → Grows file begin n q g rest → 4 ≤ g.heads → length g.columns < g.due.form.columns → length g.column + count ≤ g.due.form.rows

@@ -12,7 +12,9 @@ use Rattle.tab_file.specs.Items.{failure, first_failure}
 use Rattle.tab_file.specs.Reading.{promised_profile, promised_airs, promised_counts, items, TabFails}
 use Rattle.tab_file.specs.Steps.{Pass, Fail, out_of_memory}
 use Rattle.tab_file.specs.Pieces.{ProfileHasCome, CountsHaveCome, header_items, header_end, promised_places, whole_tables}
-use Rattle.tab_file.specs.Parts.{Waits, BodyAt, reach}
+use Rattle.tab_file.specs.Parts.{Waits, BodyAt, BodyFails, reach}
+use Rattle.gold.specs.Shapes.{places_from}
+use Rattle.gold.specs.declared.shapes.AirShape.{AirShape}
 
 abbrev pub AreBytes : List ℕ → Type 0
 AreBytes bytes = (i : ℕ) → slice_index bytes i < 256
@@ -59,7 +61,7 @@ pub record StandsFor (r : TabReader) (shape : Shape) (fed : List ℕ) : Type 0 w
 
 -- memory ran out in a feed
 abbrev pub IsOut : TabReader → Type 0
-IsOut r = r.failed ≡ Some out_of_memory
+IsOut r = MatchOption r.failed ⊥ (λ e. e.kind ≡ NoMemory)
 
 -- how many bytes it has taken, where no item has failed
 abbrev pub reached : Option Body → ℕ → ℕ
@@ -74,3 +76,19 @@ Feeds old new piece tables result =
     (shape : Shape) (fed : List ℕ) → old.shape ≡ shape → GoesOn old.profile old.body old.header.items shape fed
     → MatchResult result (λ _. GoesOn new.profile new.body new.header.items shape (fed ++ piece) × (whole_tables fed shape ++ tables ≡ whole_tables (fed ++ piece) shape))
     (λ e. e ≢ out_of_memory → HasFailed new.profile new.body shape (fed ++ piece) e)
+
+-- the instances of a file whose header is whole, and ends at an offset of the bytes that were fed
+pub record Opened (airs : List AirShape) (counts : List ℕ) (end : ℕ) (bytes : List ℕ) (b : Body) (tables : List Table) : Type 0 where
+  pub counts_are : b.coming.counts.items ≡ counts
+  pub waits : b.going ≡ true → Waits b.partial
+  pub at : (more : List ℕ) → BodyAt (bytes ++ more) (length airs) end (places_from 0 airs counts) tables more b
+
+-- they don't go on, since an item fails
+pub record OpenFails (airs : List AirShape) (counts : List ℕ) (end : ℕ) (bytes : List ℕ) (body : Option Body) (e : TabErr) : Type 0 where
+  pub counts_are : MatchOption body ⊥ (λ b. b.coming.counts.items ≡ counts)
+  pub fails : (more : List ℕ) → BodyFails (bytes ++ more) (length airs) end (places_from 0 airs counts) e
+
+abbrev pub Opens : List AirShape → List ℕ → ℕ → List ℕ → Option Body → List Table → Result (Unit {0}) TabErr → Type 0
+Opens airs counts end bytes body tables result =
+    MatchResult result (λ _. MatchOption body ⊥ (λ b. Opened airs counts end bytes b tables))
+    (λ e. e ≢ out_of_memory → OpenFails airs counts end bytes body e)

@@ -1,14 +1,13 @@
 //! Reading a file that comes in pieces, table by table.
-ghost use Rattle.std.specs.Prelude.{◌≡◌, ◌≢◌, ℕ, ◌<◌, ◌≤◌, ◌+◌, ◌^◌, ◌++◌, [], List, length, IfOk, IfErr, MatchOption, MatchResult, None};
+ghost use Rattle.std.specs.Prelude.{◌≡◌, ◌≢◌, ℕ, ◌<◌, ◌≤◌, ◌+◌, ◌^◌, ◌++◌, [], List, length, IfOk, IfErr, MatchOption, MatchResult, None, Some};
 ghost use Rattle.gold.specs.declared.instances.Table.{Table};
 ghost use Rattle.gold.specs.declared.shapes.Shape.{Shape as AnyShape};
 ghost use Rattle.gold.specs.declared.shapes.Profile.{Profile as AnyProfile};
 ghost use Rattle.tab_file.specs.declared.fault.TabErr.{TabErr as AnyErr};
 ghost use Rattle.tab_file.specs.declared.fault.TabKind.TheVariants.{NoMemory, Short};
 ghost use Rattle.tab_file.specs.Reading.{promised_profile, promised_counts, TabReads, TabFails};
-ghost use Rattle.tab_file.specs.Steps.{out_of_memory};
 ghost use Rattle.tab_file.specs.Pieces.{ProfileHasCome, CountsHaveCome, NoneFailsYet, whole_tables, witness_of};
-ghost use Rattle.tab_file.specs.Stands.{StandsFor, Feeds, IsOut, reached, taken};
+ghost use Rattle.tab_file.specs.Stands.{StandsFor, Feeds, Opens, IsOut, reached, taken};
 
 use crate::body::Body;
 use crate::fault::{TabErr, TabKind};
@@ -72,28 +71,48 @@ impl TabReader {
         self.profile
     }
 
+    /// Takes what follows the header, the bytes of which are kept.
+    fn take_body(&mut self, header: Header, tables: &mut Tables) -> Result<(), TabErr>
+        requires end { header.end ≤ length self.old.header.items }
+        requires none { self.old.body ≡ None }
+        requires empty { tables.old ≡ [] }
+        ensures shape { self.new.shape ≡ self.old.shape }
+        ensures failed { self.new.failed ≡ self.old.failed }
+        ensures profile { self.new.profile ≡ self.old.profile }
+        ensures taken { IfOk result (λ _. reached self.new.body (length self.new.header.items) ≤ length self.old.header.items) }
+        ensures opens { Opens header.airs.items header.counts.items header.end self.old.header.items self.new.body tables.new result }
+    {
+        let bytes = mem::replace(&mut self.header, Vec::new(self.alloc));
+        let Header { airs, counts, end } = header;
+        let mut body = Body::new(self.alloc, airs, counts, end as u64)?;
+        let read = body.take(&bytes[end..], tables);
+        self.set_body(body);
+        read
+    }
+
+    fn set_body(&mut self, body: Body)
+        ensures { self.new ≡ record { alloc = self.old.alloc; shape = self.old.shape; failed = self.old.failed; profile = self.old.profile; header = self.old.header; body = Some body } }
+    {
+        self.body = Some(body);
+    }
+
     /// Takes a piece of a file whose header wasn't whole.
     fn take_header(&mut self, piece: &[u8], tables: &mut Tables) -> Result<(), TabErr>
         requires room { length self.old.header.items + length piece.now < 2 ^ 64 }
         requires none { self.old.body ≡ None }
         requires empty { tables.old ≡ [] }
         ensures shape { self.new.shape ≡ self.old.shape }
+        ensures failed { self.new.failed ≡ self.old.failed }
         ensures taken { IfOk result (λ _. reached self.new.body (length self.new.header.items) ≤ length self.old.header.items + length piece.now) }
         ensures feeds { Feeds self.old self.new piece.now tables.new result }
     {
         self.header.extend_from_slice(piece)?;
         self.profile = profile_so_far(&self.header, self.shape.form);
-        let header = match header_in(self.alloc, &self.header, &self.shape) {
-            Ok(header) => header,
-            Err(e) if e.kind == TabKind::Short => return Ok(()),
-            Err(e) => return Err(e),
-        };
-        let bytes = mem::replace(&mut self.header, Vec::new(self.alloc));
-        let Header { airs, counts, end } = header;
-        let mut body = Body::new(self.alloc, airs, counts, end as u64)?;
-        let read = body.take(&bytes[end..], tables);
-        self.body = Some(body);
-        read
+        match header_in(self.alloc, &self.header, &self.shape) {
+            Ok(header) => self.take_body(header, tables),
+            Err(e) if e.kind == TabKind::Short => Ok(()),
+            Err(e) => Err(e),
+        }
     }
 
     /// Takes a piece of a file of which no item has failed.
@@ -101,6 +120,7 @@ impl TabReader {
         requires room { reached self.old.body (length self.old.header.items) + length piece.now < 2 ^ 64 }
         requires empty { tables.old ≡ [] }
         ensures shape { self.new.shape ≡ self.old.shape }
+        ensures failed { self.new.failed ≡ self.old.failed }
         ensures taken { IfOk result (λ _. reached self.new.body (length self.new.header.items) ≤ reached self.old.body (length self.old.header.items) + length piece.now) }
         ensures feeds { Feeds self.old self.new piece.now tables.new result }
     {
@@ -129,7 +149,7 @@ impl TabReader {
         ensures again { (shape : AnyShape) (fed : List ℕ) (e : AnyErr) → StandsFor self.old shape fed → TabFails fed shape e.kind e.at → e.kind ≢ Short → MatchResult result (λ _. ⊥) (λ d. d ≡ e) }
         // So is want of memory.
         ensures memory { IfErr result (λ e. e.kind ≡ NoMemory → IsOut self.new) }
-        ensures out { IsOut self.old → MatchResult result (λ _. ⊥) (λ e. e ≡ out_of_memory) }
+        ensures out { IsOut self.old → MatchResult result (λ _. ⊥) (λ e. e.kind ≡ NoMemory) }
         ensures taken { taken self.new ≤ taken self.old + length piece.now }
     {
         if let Some(e) = self.failed {
@@ -155,7 +175,7 @@ impl TabReader {
         // The tables that came whole are those of the file.
         ensures reads { (shape : AnyShape) (fed : List ℕ) → StandsFor self shape fed → IfOk result (λ _. TabReads fed shape (witness_of fed shape)) }
         ensures fails { (shape : AnyShape) (fed : List ℕ) → StandsFor self shape fed → IfErr result (λ e. TabFails fed shape e.kind e.at) }
-        ensures out { IsOut self → MatchResult result (λ _. ⊥) (λ e. e ≡ out_of_memory) }
+        ensures out { IsOut self → MatchResult result (λ _. ⊥) (λ e. e.kind ≡ NoMemory) }
     {
         if let Some(e) = self.failed {
             return Err(e);
