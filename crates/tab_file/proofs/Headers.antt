@@ -384,3 +384,9 @@ begins_later Two n = omega arith
 pub no_tables : (shape : Shape) → whole_tables [] shape ≡ []
 no_tables shape = none_whole [] (header_end [] shape) (promised_places [] shape) (begins_later shape.form (length (promised_airs [] shape)))
 
+
+abbrev shape_of : List AirShape → Form → Shape
+shape_of airs form = record { airs = airs; form = form }
+
+pub same_shape : (airs : List AirShape) (shape : Shape) → airs ≡ shape.airs → shape_of airs shape.form ≡ shape
+same_shape airs shape e = ap (λ (fs : List AirShape). shape_of fs shape.form) e

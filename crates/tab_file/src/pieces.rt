@@ -1,5 +1,5 @@
 //! Reading a file that comes in pieces, table by table.
-ghost use Rattle.std.specs.Prelude.{◌≡◌, ◌≢◌, ℕ, ◌<◌, ◌≤◌, ◌+◌, ◌^◌, ◌++◌, [], List, length, IfOk, IfErr, MatchOption, MatchResult, None, Some};
+ghost use Rattle.std.specs.Prelude.{◌≡◌, ◌≢◌, ℕ, ◌<◌, ◌≤◌, ◌+◌, ◌^◌, ◌++◌, [], List, length, IfOk, IfErr, MatchBool, MatchOption, MatchResult, None, Some};
 ghost use Rattle.gold.specs.declared.instances.Table.{Table};
 ghost use Rattle.gold.specs.declared.shapes.Shape.{Shape as AnyShape};
 ghost use Rattle.gold.specs.declared.shapes.Profile.{Profile as AnyProfile};
@@ -29,6 +29,15 @@ pub struct TabReader {
     header: Vec<u8>,
     /// What follows the header, where the header is whole.
     body: Option<Body>,
+}
+
+fn is_short(kind: TabKind) -> bool
+    ensures { MatchBool result (kind ≡ Short) (kind ≢ Short) }
+{
+    match kind {
+        TabKind::Short => true,
+        _ => false,
+    }
 }
 
 impl TabReader {
@@ -110,7 +119,7 @@ impl TabReader {
         self.profile = profile_so_far(&self.header, self.shape.form);
         match header_in(self.alloc, &self.header, &self.shape) {
             Ok(header) => self.take_body(header, tables),
-            Err(e) if e.kind == TabKind::Short => Ok(()),
+            Err(e) if is_short(e.kind) => Ok(()),
             Err(e) => Err(e),
         }
     }

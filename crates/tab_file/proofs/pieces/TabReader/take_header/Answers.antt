@@ -14,7 +14,7 @@ returns-in-Err-clause-feeds c shape fed same s =
     let here = subst (λ b. GoesOn r.profile b r.header.items r.shape fed) c.requires.none (subst (λ sh. GoesOn r.profile r.body r.header.items sh fed) (sym same) s) in
     let told : Told p c.deref-2.result.now r.shape.form = subst (λ (xs : List ℕ). Told p xs r.shape.form) (c.deref.ensures.value ∙ sym c.deref-2.ensures.value) c.profile_so_far-self.ensures in
     let done = header_goes_on r.profile p r.header.items r.shape fed c.args.piece.now k c.deref-2.result.now c.args.tables.now c.in-Err.e here (λ i. omega (arith, c.type_inv.piece i)) c.in_ok-extend_from_slice.ensures.items c.deref-2.ensures.value
-    told c.in-Err.ensures.fail c.if-eq.ensures c.requires.empty in
+    told c.in-Err.ensures.fail c.if-is_short.ensures c.requires.empty in
     subst (λ sh. GoesOn p r.body k sh (fed ++ c.args.piece.now) × (whole_tables fed sh ++ c.args.tables.now ≡ whole_tables (fed ++ c.args.piece.now) sh)) same
     (subst (λ b. GoesOn p b k r.shape (fed ++ c.args.piece.now) × (whole_tables fed r.shape ++ c.args.tables.now ≡ whole_tables (fed ++ c.args.piece.now) r.shape)) (sym c.requires.none) done)
 
@@ -26,7 +26,7 @@ returns-in-Err-2-clause-feeds c shape fed same s other =
     let here = subst (λ b. GoesOn r.profile b r.header.items r.shape fed) c.requires.none (subst (λ sh. GoesOn r.profile r.body r.header.items sh fed) (sym same) s) in
     let told : Told p c.deref-2.result.now r.shape.form = subst (λ (xs : List ℕ). Told p xs r.shape.form) (c.deref.ensures.value ∙ sym c.deref-2.ensures.value) c.profile_so_far-self.ensures in
     let done = header_has_failed r.profile p r.header.items r.shape fed c.args.piece.now k c.deref-2.result.now c.in-Err.e here c.in_ok-extend_from_slice.ensures.items c.deref-2.ensures.value
-    told c.in-Err.ensures.fail c.if-eq.ensures other in
+    told c.in-Err.ensures.fail c.if-is_short.ensures other in
     subst (λ sh. HasFailed p r.body sh (fed ++ c.args.piece.now) c.in-Err.e) same (subst (λ b. HasFailed p b r.shape (fed ++ c.args.piece.now) c.in-Err.e) (sym c.requires.none) done)
 
 pub returns-in-Ok-clause-feeds : goal.returns-in-Ok-clause-feeds
