@@ -156,15 +156,15 @@ short_where bytes at [] e h f kind =
     ] f
 short_where bytes at (i ∷ is) e h f kind =
     elim (ltb (length bytes) (at + byte_len i.width)) as (λ b. ltb (length bytes) (at + byte_len i.width) ≡ b → option_or (cond b (Some (failure Short (length bytes))) (i.wrong at (number_at i.width bytes at))) (first_failure bytes (at + byte_len i.width) is) ≡ Some e
-        → (e ≡ failure Short (length bytes)) × (length bytes < at + (byte_len i.width + items_len is))) [
+    → (e ≡ failure Short (length bytes)) × (length bytes < at + (byte_len i.width + items_len is))) [
       | true ↦ λ t g.
           let lt : length bytes < at + byte_len i.width = ltb-true (length bytes) (at + byte_len i.width) t in
           (sym (some_same (failure Short (length bytes)) e g), omega (arith, lt))
       | false ↦ λ t g. elim (i.wrong at (number_at i.width bytes at)) as (λ o. i.wrong at (number_at i.width bytes at) ≡ o → option_or o (first_failure bytes (at + byte_len i.width) is) ≡ Some e
           → (e ≡ failure Short (length bytes)) × (length bytes < at + (byte_len i.width + items_len is))) [
-        | None ↦ λ none g2.
-            let later = short_where bytes (at + byte_len i.width) is e h.1 g2 kind in
-            (later.0, omega (arith, later.1))
-        | Some d ↦ λ some g2. absurd (h.0.not_short at (number_at i.width bytes at) d some (ap (λ (x : TabErr). x.kind) (some_same d e g2) ∙ kind))
-      ] refl g
+            | None ↦ λ none g2.
+                let later = short_where bytes (at + byte_len i.width) is e h.1 g2 kind in
+                (later.0, omega (arith, later.1))
+            | Some d ↦ λ some g2. absurd (h.0.not_short at (number_at i.width bytes at) d some (ap (λ (x : TabErr). x.kind) (some_same d e g2) ∙ kind))
+          ] refl g
     ] refl f

@@ -384,7 +384,6 @@ begins_later Two n = omega arith
 pub no_tables : (shape : Shape) → whole_tables [] shape ≡ []
 no_tables shape = none_whole [] (header_end [] shape) (promised_places [] shape) (begins_later shape.form (length (promised_airs [] shape)))
 
-
 abbrev shape_of : List AirShape → Form → Shape
 shape_of airs form = record { airs = airs; form = form }
 

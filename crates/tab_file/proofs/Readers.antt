@@ -45,8 +45,8 @@ head_short fed begin n q g more s w =
     let width : byte_len (head_item n q g.heads).width ≡ 4 = ap byte_len (width_of_head n q g.heads) in
     let short : length fed < g.at + byte_len (head_item n q g.heads).width = omega (arith, len, width, w.part) in (
       ap (λ (is : List Item). first_failure fed begin (is ++ more)) (parted n q g.heads w.heads) ∙ ap (first_failure fed begin) (append_assoc (head_items n q g.heads) (item ∷ after_head n q g.heads) more)
-      ∙ passed.0.rest ((item ∷ after_head n q g.heads) ++ more)
-      ∙ ap (λ (o : Option TabErr). option_or o (first_failure fed (g.at + byte_len item.width) (after_head n q g.heads ++ more))) (short_item fed g.at item short),
+          ∙ passed.0.rest ((item ∷ after_head n q g.heads) ++ more)
+          ∙ ap (λ (o : Option TabErr). option_or o (first_failure fed (g.at + byte_len item.width) (after_head n q g.heads ++ more))) (short_item fed g.at item short),
       omega (arith, len, w.part, w.heads, passed.1),
     )
 
@@ -68,8 +68,8 @@ value_short fed begin n q g more s w =
     let short : length fed < g.at + 8 = omega (arith, len, w.part) in
     let tail : List Item = value_item ∷ replicate left value_item in (
       ap (λ (is : List Item). first_failure fed begin (is ++ more)) shape ∙ ap (first_failure fed begin) (append_assoc (head ++ replicate v value_item) tail more)
-      ∙ s.passed.rest (tail ++ more)
-      ∙ ap (λ (o : Option TabErr). option_or o (first_failure fed (g.at + 8) (replicate left value_item ++ more))) (short_item fed g.at value_item short),
+          ∙ s.passed.rest (tail ++ more)
+          ∙ ap (λ (o : Option TabErr). option_or o (first_failure fed (g.at + 8) (replicate left value_item ++ more))) (short_item fed g.at value_item short),
       omega (arith, len, w.part, four, s.next, room, sized),
     )
 

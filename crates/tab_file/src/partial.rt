@@ -82,12 +82,7 @@ fn value_in(bytes: &[u8], at: usize) -> Option<Fe>
 }
 
 /// Adds so many values to a column, which stand at an offset of the file.
-fn push_values(
-    column: &mut Column,
-    bytes: &[u8],
-    count: usize,
-    at: u64,
-) -> Result<(), TabErr>
+fn push_values(column: &mut Column, bytes: &[u8], count: usize, at: u64) -> Result<(), TabErr>
     requires room { at + length bytes.now < 2 ^ 64 }
     requires count { 8 * count ≤ length bytes.now }
     ensures len { IfOk result (λ _. length column.new ≡ length column.old + count) }

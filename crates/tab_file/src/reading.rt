@@ -157,7 +157,11 @@ pub(crate) fn front(bytes: &[u8], form: Form, airs: u64) -> Result<(Profile, usi
 }
 
 /// The airs of a shape in a profile.
-pub(crate) fn airs_in(alloc: Global, shape: &Shape, profile: Profile) -> Result<Vec<AirShape>, AllocError>
+pub(crate) fn airs_in(
+    alloc: Global,
+    shape: &Shape,
+    profile: Profile,
+) -> Result<Vec<AirShape>, AllocError>
     ensures { IfOk result (λ v. v.items ≡ in_profile profile shape.now.airs) }
 {
     let mut airs = Vec::from_slice(alloc, shape.airs.as_slice())?;

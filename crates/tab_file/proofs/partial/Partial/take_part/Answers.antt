@@ -26,6 +26,11 @@ returns-in_ok-push_values-clause-takes c file begin n q more s =
     let filled = part_filled file begin n q g h c.args.piece.now more c.in_ok-done.done s c.requires.heads some (record { due = refl; air = refl; heads = refl; columns = refl; column = refl; at = refl }) c.in_ok-done.ensures.moved c.in_ok-done.ensures.most in
     let eight : length c.fill.new.part.items ≡ 8 = omega (arith, filled.value_part, c.len.ensures, c.if-len-ge8.true) in
     part_taken file begin n q h _ _ filled c.requires.heads eight (record {
-      due = refl; air = refl; heads = refl; columns = refl; at = refl; part = c.clear.ensures.items;
+      due = refl;
+      air = refl;
+      heads = refl;
+      columns = refl;
+      at = refl;
+      part = c.clear.ensures.items;
       adds = c.in_ok-push_values.ensures.adds file _ filled.passed.whole (filled.ahead ∙ ap (λ (xs : List ℕ). xs ++ (drop c.in_ok-done.done c.args.piece.now ++ more)) (sym c.deref.ensures.value));
     })

@@ -19,7 +19,12 @@ returns-then-count-wanted-clause-takes c file begin n q more s =
     let h : Partial = record { alloc = g.alloc; due = g.due; air = g.air; heads = g.heads; columns = g.columns; column = c.push_values.new.column; at = g.at + 8 * c.min-count.result; part = g.part } in
     let taken = run_taken file begin n q g h c.args.piece.now more c.min-count.result s c.requires.heads c.requires.columns c.requires.part
     (omega (arith, c.min-count.ensures)) (omega (arith, s.rows, c.min-count.ensures, c.saturating_sub-wanted.ensures, c.len.ensures)) (record {
-      due = refl; air = refl; heads = refl; columns = refl; at = refl; part = c.requires.part;
+      due = refl;
+      air = refl;
+      heads = refl;
+      columns = refl;
+      at = refl;
+      part = c.requires.part;
       adds = c.in_ok-push_values.ensures.adds file _ s.passed.whole stands;
     }) in
     tail_kept file begin n q h _ c.args.piece.now more (8 * c.min-count.result) taken c.requires.heads c.requires.part (record { due = refl; air = refl; heads = refl; columns = refl; column = refl; at = refl })
@@ -34,6 +39,11 @@ returns-clause-takes c file begin n q more s =
     let stands = run_stands file begin n q g c.args.piece.now more (8 * c.min-count.result) s c.requires.part in
     run_taken file begin n q g _ c.args.piece.now more c.min-count.result s c.requires.heads c.requires.columns c.requires.part
     (omega (arith, c.min-count.ensures)) (omega (arith, s.rows, c.min-count.ensures, c.saturating_sub-wanted.ensures, c.len.ensures)) (record {
-      due = refl; air = refl; heads = refl; columns = refl; at = refl; part = c.requires.part;
+      due = refl;
+      air = refl;
+      heads = refl;
+      columns = refl;
+      at = refl;
+      part = c.requires.part;
       adds = c.in_ok-push_values.ensures.adds file _ s.passed.whole stands;
     })
