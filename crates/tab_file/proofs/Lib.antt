@@ -9,3 +9,12 @@ pub mod Again
 pub mod Exclusive
 pub mod Heights
 pub mod OfFile
+pub mod InPiece
+pub mod Cursor
+pub mod Grown
+pub mod Values
+pub mod Bodies
+pub mod Extends
+pub mod Readers
+pub mod Feeding
+pub mod Headers

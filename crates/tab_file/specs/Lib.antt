@@ -1,5 +1,8 @@
 pub mod Format
+pub mod Front
 pub mod Items
-pub mod Reading
-pub mod Steps
+pub mod Parts
 pub mod Pieces
+pub mod Reading
+pub mod Stands
+pub mod Steps

@@ -1,8 +1,8 @@
 //! The numbers of a file, each with its test.
-ghost use Rattle.std.specs.Prelude.{◌≡◌, ◌≤◌, ◌<◌, ◌+◌, ◌∷◌, [], length, IfOk, IfErr};
+ghost use Rattle.std.specs.Prelude.{◌≡◌, ◌≤◌, ◌<◌, ◌+◌, ◌∷◌, [], ◌⊎◌, length, IfOk, IfErr};
 ghost use Rattle.std.specs.Int.{w32, w64};
 ghost use Rattle.gold.specs.Field.{p};
-ghost use Rattle.tab_file.specs.declared.fault.TabKind.TheVariants.{Short};
+ghost use Rattle.tab_file.specs.declared.fault.TabKind.TheVariants.{Short, BadProfile};
 ghost use Rattle.tab_file.specs.Items.{failure, number_at, exactly, profile_item, air_item, count_item, value_item};
 ghost use Rattle.tab_file.specs.Reading.{profile_of};
 ghost use Rattle.tab_file.specs.Steps.{Pass, Fail};
@@ -71,6 +71,7 @@ pub(crate) fn expect(
     ensures value { IfOk result (λ v. (v ≡ number_at w32 bytes.now at) × (v ≡ wanted)) }
     ensures pass { IfOk result (λ v. Pass bytes.now at (exactly wanted kind back ∷ []) (at + 4)) }
     ensures fail { IfErr result (Fail bytes.now at (exactly wanted kind back ∷ [])) }
+    ensures kind { IfErr result (λ e. (e.kind ≡ Short) ⊎ (e.kind ≡ kind)) }
 {
     let number = u32_at(bytes, at)?;
     if number as u64 != wanted {
@@ -102,6 +103,7 @@ pub(crate) fn profile_at(bytes: &[u8], at: usize) -> Result<Profile, TabErr>
     ensures value { IfOk result (λ v. v ≡ profile_of (number_at w32 bytes.now at)) }
     ensures pass { IfOk result (λ v. Pass bytes.now at (profile_item ∷ []) (at + 4)) }
     ensures fail { IfErr result (Fail bytes.now at (profile_item ∷ [])) }
+    ensures kind { IfErr result (λ e. (e.kind ≡ Short) ⊎ (e.kind ≡ BadProfile)) }
 {
     match u32_at(bytes, at)? {
         SMALL => Ok(Profile::Small),

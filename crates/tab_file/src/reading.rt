@@ -122,12 +122,13 @@ fn instances(
 }
 
 /// The version, and in format 2 the profile, and the offset after them.
-fn version(bytes: &[u8], form: Form) -> Result<(Profile, usize), TabErr>
+pub(crate) fn version(bytes: &[u8], form: Form) -> Result<(Profile, usize), TabErr>
     requires { 4 ≤ length bytes.now }
     ensures profile { IfOk result (λ r. r.0 ≡ promised_profile bytes.now form) }
     ensures next { IfOk result (λ r. r.1 ≡ version_end form) }
     ensures pass { IfOk result (λ r. Pass bytes.now 4 (version_items form) r.1) }
     ensures fail { IfErr result (Fail bytes.now 4 (version_items form)) }
+    ensures item { IfErr result (λ e. e.kind ≢ NoMemory) }
 {
     match form {
         Form::Plain | Form::One => {
@@ -142,7 +143,7 @@ fn version(bytes: &[u8], form: Form) -> Result<(Profile, usize), TabErr>
 }
 
 /// The magic, the version and profile, and the number of airs, and the offset after them.
-fn front(bytes: &[u8], form: Form, airs: u64) -> Result<(Profile, usize), TabErr>
+pub(crate) fn front(bytes: &[u8], form: Form, airs: u64) -> Result<(Profile, usize), TabErr>
     ensures bits { IfOk result (λ _. airs < 2 ^ 32) }
     ensures profile { IfOk result (λ r. r.0 ≡ promised_profile bytes.now form) }
     ensures next { IfOk result (λ r. r.1 ≡ front_end form) }
@@ -156,7 +157,11 @@ fn front(bytes: &[u8], form: Form, airs: u64) -> Result<(Profile, usize), TabErr
 }
 
 /// The airs of a shape in a profile.
-fn airs_in(alloc: Global, shape: &Shape, profile: Profile) -> Result<Vec<AirShape>, AllocError>
+pub(crate) fn airs_in(
+    alloc: Global,
+    shape: &Shape,
+    profile: Profile,
+) -> Result<Vec<AirShape>, AllocError>
     ensures { IfOk result (λ v. v.items ≡ in_profile profile shape.now.airs) }
 {
     let mut airs = Vec::from_slice(alloc, shape.airs.as_slice())?;
@@ -167,7 +172,7 @@ fn airs_in(alloc: Global, shape: &Shape, profile: Profile) -> Result<Vec<AirShap
 }
 
 /// How many instances of each air there are, and the offset after these numbers.
-fn counts(
+pub(crate) fn counts(
     alloc: Global,
     bytes: &[u8],
     start: usize,
