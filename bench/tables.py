@@ -4,7 +4,7 @@
 `witness`, with each number of workers that the program takes, stands beside a bare copy of the file and beside
 `run`; `check` beside plain_check.rs. Both columns of seconds are the least of all rounds: those that passed, and
 those of the processor, which tell more where the machine is shared. Memory is the child's peak, or Python's
-where that is more (some 16 MB). Before measuring, the answers of `check` and of plain_check.rs are compared on
+where that is more (some 50 MB). Before measuring, the answers of `check` and of plain_check.rs are compared on
 small tables, true and forged.
 
 Usage: tables.py ZKW [--rounds N] [--times N] [--folder FOLDER] [--without-check]
