@@ -4,8 +4,8 @@
 `witness`, with each number of workers that the program takes, stands beside a bare copy of the file and beside
 `run`; `check` beside plain_check.rs. Both columns of seconds are the least of all rounds: those that passed, and
 those of the processor, which tell more where the machine is shared. Memory is the child's peak, or Python's
-where that is more (some 16 MB). Before measuring, the answers of `check`
-and of plain_check.rs are compared on small tables, true and forged.
+where that is more (some 50 MB). Before measuring, the answers of `check` and of plain_check.rs are compared on
+small tables, true and forged.
 
 Usage: tables.py ZKW [--rounds N] [--times N] [--folder FOLDER] [--without-check]
 ZKW is the built program; FOLDER takes 2.5 GB.
@@ -204,7 +204,8 @@ def main():
     options = parser.parse_args()
     with tempfile.TemporaryDirectory(dir=options.folder) as folder:
         bench = Bench(os.path.abspath(options.zkw), folder)
-        bench.answers()
+        if not options.without_check:
+            bench.answers()
         workers = bench.workers(bench.mixed(1), (0, 1, 2, 4))
         load = os.getloadavg()[0]
         for _ in range(options.times):
