@@ -1,4 +1,3 @@
 mod Count
 mod Sound
 mod Bytes
-mod Found
