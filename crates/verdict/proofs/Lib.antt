@@ -1,3 +1,13 @@
 mod Count
 mod Sound
 mod Bytes
+mod Added
+mod Cases
+mod Places
+mod Same
+mod Alike
+mod Next
+mod Whole
+mod Written
+mod Start
+mod Adding

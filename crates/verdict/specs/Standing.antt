@@ -12,6 +12,7 @@ use Rattle.std.specs.List.{slice_index_or}
 use Rattle.pil_ast.specs.Term.{Namespace}
 use Rattle.pil_ast.specs.Tree.{namespaces}
 use Rattle.pil_ast.specs.Columns.{Columns}
+use Rattle.pil_ast.specs.Sound.{IsSound}
 use Rattle.fixed_cols.specs.declared.sizes.Sizes.{Sizes}
 use Rattle.fixed_cols.specs.Constants.{fixed_of}
 use Rattle.fixed_cols.specs.Constants as C
@@ -65,6 +66,7 @@ pub record StandsForTables (image : Img) (sizes : Sizes) (tables : List Table) (
   pub filled : Fill (take (length tables) (places_of sizes)) tables
   pub profile : run.profile ≡ sizes.profile
   pub text : namespaces run.pil ≡ machine sizes.profile
+  pub sound : IsSound (machine sizes.profile)
   pub fixed : run.fixed ≡ fixed_of image sizes
   pub built : IsBuilt (machine sizes.profile) run.checker
   pub counted : AreCounted image sizes tables run.checker

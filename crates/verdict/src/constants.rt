@@ -53,7 +53,8 @@ pub(crate) fn constant_columns(
 {
     let mut columns = Columns::new(alloc);
     for column in 0..constants_of(Namespace::at(place.space)) {
-        columns.push(constant_column(alloc, fixed, place, column)?)?;
+        let values = constant_column(alloc, fixed, place, column)?;
+        columns.push(values)?;
     }
     let _ = columns.as_slice();
     Ok(columns)
@@ -69,6 +70,7 @@ fn constant_instances(
     requires { space < 13 }
     ensures columns { IfOk result (λ x. x ≡ instances_with fixed.now space rows) }
     ensures canonical { IfOk result (All AreCanonical) }
+    ensures few { IfOk result (λ x. length x < 2 ^ 32) }
 {
     let mut instances = Sequence::new(alloc);
     for instance in 0..fixed.instances(space) {
@@ -77,7 +79,8 @@ fn constant_instances(
             instance,
             rows,
         };
-        instances.push(constant_columns(alloc, fixed, place)?)?;
+        let columns = constant_columns(alloc, fixed, place)?;
+        instances.push(columns)?;
     }
     Ok(instances)
 }

@@ -1,5 +1,5 @@
 //! A verdict that is given the tables one at a time.
-ghost use Rattle.std.specs.Prelude.{◌≡◌, ◌≢◌, ◌<◌, ◌≤◌, ◌++◌, ◌∷◌, [], ℕ, List, IfOk, OnOk};
+ghost use Rattle.std.specs.Prelude.{◌≡◌, ◌≢◌, ◌<◌, ◌≤◌, ◌++◌, ◌∷◌, [], ℕ, List, IfOk, OnOk, All, length};
 ghost use Rattle.gold.specs.declared.instances.Table.{Table as TableOf};
 ghost use Rattle.pil_ast.specs.Columns.{Columns as Values, Fits};
 ghost use Rattle.pil_ast.specs.Sound.{IsSound};
@@ -8,8 +8,11 @@ ghost use Rattle.rv_model.specs.Image.{Img};
 ghost use Rattle.fixed_cols.specs.declared.sizes.Sizes.{Sizes as SizesOf};
 ghost use Rattle.instance_pass.specs.Passes.{IsSameInstance};
 ghost use Rattle.pil_checker.specs.Standing.{IsBuilt, StandsFor, added};
+ghost use Rattle.zk_layout.specs.Air.{air_number};
+ghost use Rattle.zk_layout.specs.declared.air.Air.TheVariants.{Out};
 ghost use Rattle.zk_layout.specs.Namespaces.{namespace_number, namespace_of};
 ghost use Rattle.verdict.specs.Judged.{IsJudged};
+ghost use Rattle.verdict.specs.Told.{told_by};
 ghost use Rattle.verdict.specs.Standing.{AreAll, AreAllowed, ComesNext, IsNext, IsWhole, StandsForTables, air_at, witness_with};
 
 use crate::Judgement;
@@ -125,6 +128,22 @@ impl VerdictRun {
         })
     }
 
+    /// Keeps what a table of Out tells.
+    fn publish(&mut self, table: &Table)
+        requires columns { table.now.air ≡ air_number Out → length table.now.columns ≡ 2 }
+        requires rows { table.now.air ≡ air_number Out → All (λ c. length c ≡ 64) table.now.columns }
+        ensures profile { self.new.profile ≡ self.old.profile }
+        ensures pil { self.new.pil ≡ self.old.pil }
+        ensures fixed { self.new.fixed ≡ self.old.fixed }
+        ensures checker { self.new.checker ≡ self.old.checker }
+        ensures out { table.now.air ≡ air_number Out → self.new.public ≡ told_by table.now }
+        ensures others { table.now.air ≢ air_number Out → self.new.public ≡ self.old.public }
+    {
+        if table.air == Air::Out.number() {
+            self.public = told_by(table);
+        }
+    }
+
     /// Adds the table that comes next in the order of the file. It is read once and not kept. After an `Err` the run
     /// is of no more use.
     ///
@@ -148,9 +167,7 @@ impl VerdictRun {
         let frame = Frame::new(self.profile, space, table.instance, first, others);
         self.checker
             .add(alloc, &self.pil, &frame, space, table.instance)?;
-        if table.air == Air::Out.number() {
-            self.public = told_by(table);
-        }
+        self.publish(table);
         Ok(())
     }
 
@@ -171,7 +188,8 @@ impl VerdictRun {
             public,
             ..
         } = self;
-        match checker.finish(alloc, &pil)? {
+        let found = checker.finish(alloc, &pil)?;
+        match found {
             Some(broken) => Ok(Judgement::Broken(broken)),
             None => Ok(Judgement::Accepted(public)),
         }
