@@ -11,3 +11,4 @@ mod Whole
 mod Written
 mod Start
 mod Adding
+mod Verdicts

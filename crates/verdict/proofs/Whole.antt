@@ -178,3 +178,7 @@ module _ (law : TablesLaw) (outs : OutsLaw) (image : Img) (w : Witness) (h : Are
       let o = out_is w h one in
       told_is o.at o.table o.is o.air
       ∙ sym (same_public _ _ _ _ (number o.table o.found 0 (omega arith)) (pieces _ _ 0 32 (λ k l. ap (to_le_bytes w64) (number o.table o.found (k + 1) (omega arith)))))
+
+pub one_out : (image : Img) (w : Witness) → (values_of image w).instances 8 ≡ 1 → instances_of w.tables 6 ≡ 1
+unfolding air_number
+one_out image w h = h

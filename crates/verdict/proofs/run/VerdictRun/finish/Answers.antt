@@ -8,7 +8,7 @@ use Rattle.machine_columns.specs.Values.{values_of}
 use Rattle.pil_checker.specs.Standing.{IsBuilt}
 use Rattle.verdict.specs.Standing.{witness_with}
 use Rattle.verdict.proofs.Start.{verdict_of}
-use Rattle.verdict.proofs.Whole.{published_is}
+use Rattle.verdict.proofs.Whole.{one_out, published_is}
 use Rattle.verdict.proofs.run.VerdictRun.finish.Goals as goal
 
 pub finish-requires-clause-sound : goal.finish-requires-clause-sound
@@ -26,5 +26,5 @@ pub returns : goal.returns
 returns c = λ image sizes tables st all. (
   subst (λ o. MatchOption o (AreAccepted image (witness_with sizes tables)) (λ b. IsFirstBroken (machine sizes.profile) (values_of image (witness_with sizes tables)) b)) c.in-None.is
   (verdict_of image sizes tables c.args.self c.in_ok-found.found st all c.in_ok-found.ensures),
-  published_is c.columns_laws.ensures.tables c.publics_laws.ensures.outs image (witness_with sizes tables) all.formed (c.publics_laws.ensures.one image (witness_with sizes tables) all.formed) c.args.self.public st.told,
+  published_is c.columns_laws.ensures.tables c.publics_laws.ensures.outs image (witness_with sizes tables) all.formed (one_out image (witness_with sizes tables) (c.publics_laws.ensures.one image (witness_with sizes tables) all.formed)) c.args.self.public st.told,
 )
