@@ -14,6 +14,7 @@ use Rattle.pil_ast.specs.Columns.{Fits}
 use Rattle.fixed_cols.specs.Columns.{HasConstants}
 use Rattle.fixed_cols.specs.Constants.{constant}
 use Rattle.fixed_cols.specs.Constants as C
+use Rattle.fixed_cols.specs.declared.sizes.Sizes.{Sizes}
 use Rattle.machine_text.specs.Machine.{machine, main_rows}
 use Rattle.main_run.specs.Whole.{IsMachine}
 use Rattle.machine_columns.specs.Values.{sizes_of, values_of, constants_per, cell, instances_at, width_at, rows_at, value_in}
@@ -86,6 +87,12 @@ all_bounded image w h =
         ),
       ),
     )
+
+-- the namespaces that have constants alone, whatever the tables
+pub few_constant : (image : Img) (sizes : Sizes) (s : ℕ) → s < 6 → C.instances_of image sizes (namespace_at s) ≤ 2 ^ 20
+few_constant image sizes s l =
+    first_at (λ s. C.instances_of image sizes (namespace_at s) ≤ 2 ^ 20) 6
+    (omega arith, (omega arith, (omega arith, (omega arith, (few_instances (length (rom_rows image)) (few_rows image), (few_instances (length (initial_doublewords image)) (few_more _ (few_doublewords image)), tt)))))) s l
 
 bounded_at : (image : Img) (w : Witness) → AreWellFormed w → (s : ℕ) → s < 13 → IsBounded image w s
 bounded_at image w h s below = first_at (IsBounded image w) 13 (all_bounded image w h) s below

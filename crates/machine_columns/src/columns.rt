@@ -7,13 +7,13 @@ ghost use Rattle.machine_columns.specs.Values.{sizes_of};
 
 use crate::place::{air_of, constants_of};
 use fixed_cols::{FixedValues, Sizes, constants};
-use gold::{Fe, Shape, Witness};
+use gold::{Fe, Form, Shape, Witness};
 use pil_ast::Columns;
 use rv_model::Image;
 use std::alloc::{AllocError, Global};
 use std::marker::Model;
 use wit_columns::TableColumns;
-use zk_layout::{Air, Namespace};
+use zk_layout::{Air, Namespace, machine_shape};
 
 /// The values of which the machine's text speaks, of an image and of tables. A value is found in constant time. Contracts
 /// see them as the image and the tables.
@@ -51,6 +51,20 @@ fn sizes(witness: &Witness, tables: &TableColumns) -> Sizes
             tables.instances(Air::Out.number()),
         ],
     }
+}
+
+/// The profile of well-formed tables, and how many there are of each air.
+///
+/// # Errors
+///
+/// Memory ran out.
+pub fn table_sizes(alloc: Global, witness: &Witness) -> Result<Sizes, AllocError>
+    requires { AreWellFormed witness.now }
+    ensures { IfOk result (λ found. found ≡ sizes_of witness.now) }
+{
+    let shape = machine_shape(alloc, Form::Two)?;
+    let tables = TableColumns::new(alloc, witness, &shape)?;
+    Ok(sizes(witness, &tables))
 }
 
 impl<'a> MachineColumns<'a> {

@@ -1,12 +1,14 @@
 //! The laws, each on a function that computes nothing.
-ghost use Rattle.std.specs.Prelude.{◌≡◌, ◌+◌, ◌<◌, ◌^◌, ℕ};
+ghost use Rattle.std.specs.Prelude.{◌≡◌, ◌+◌, ◌<◌, ◌≤◌, ◌^◌, ℕ};
 ghost use Rattle.gold.specs.declared.instances.Witness.{Witness as Tables};
 ghost use Rattle.rv_model.specs.Image.{Img, IsLoadable};
 ghost use Rattle.pil_ast.specs.Columns.{Fits};
 ghost use Rattle.pil_ast.specs.Value.{public_value};
 ghost use Rattle.zk_layout.specs.Air.{air_number, columns_per, rows_in};
-ghost use Rattle.zk_layout.specs.Namespaces.{namespace_number, namespace_of};
+ghost use Rattle.zk_layout.specs.Namespaces.{namespace_at, namespace_number, namespace_of};
 ghost use Rattle.zk_layout.specs.declared.air.Air.{Air};
+ghost use Rattle.fixed_cols.specs.Constants.{instances_of as instances_for_sizes};
+ghost use Rattle.fixed_cols.specs.declared.sizes.Sizes.{Sizes};
 ghost use Rattle.wit_columns.specs.Values.{instances_of, value_at};
 ghost use Rattle.machine_text.specs.Machine.{machine};
 ghost use Rattle.machine_text.specs.Out;
@@ -29,6 +31,8 @@ pub fn columns_laws()
     ensures fits { (image : Img) (tables : Tables) → AreWellFormed tables → Fits (machine tables.profile) (values_of image tables) }
     // They have the machine's constants, as many instances as they may have, and values of the field.
     ensures machine { (image : Img) (tables : Tables) → IsLoadable image → AreWellFormed tables → IsMachine image (sizes_of tables) (values_of image tables) }
+    // Of the namespaces that have constants alone there are few instances.
+    ensures few { (image : Img) (sizes : Sizes) (s : ℕ) → s < 6 → instances_for_sizes image sizes (namespace_at s) ≤ 2 ^ 20 }
     // Behind the constants of an air's namespace stand the columns of its tables.
     ensures tables { (image : Img) (tables : Tables) (air : Air) (i k r : ℕ) → i < instances_of tables.tables (air_number air) → k < columns_per air → r < rows_in tables.profile air → (values_of image tables).at (namespace_number (namespace_of air)) i (constants_per (namespace_of air) + k) r ≡ value_at tables.tables (air_number air) i k r }
 {

@@ -5,5 +5,6 @@ mod columns;
 mod laws;
 mod place;
 
-pub use columns::MachineColumns;
+pub use columns::{MachineColumns, table_sizes};
 pub use laws::{columns_laws, publics_laws};
+pub use place::constants_of;

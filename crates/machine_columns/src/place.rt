@@ -8,7 +8,7 @@ use zk_layout::{Air, Namespace};
 /// How many of a namespace's columns are constant.
 #[inline]
 #[tactic(auto, unfolding(crate::specs::Values::constants_per))]
-pub(crate) fn constants_of(space: Namespace) -> u32
+pub fn constants_of(space: Namespace) -> u32
     ensures { result ≡ constants_per space }
 {
     match space {

@@ -1,4 +1,14 @@
 mod Count
 mod Sound
 mod Bytes
-mod Found
+mod Added
+mod Cases
+mod Places
+mod Same
+mod Alike
+mod Next
+mod Whole
+mod Written
+mod Start
+mod Adding
+mod Verdicts

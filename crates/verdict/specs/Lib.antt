@@ -1,3 +1,5 @@
 pub mod Judged
 pub mod Steps
 pub mod Told
+pub mod Frames
+pub mod Standing

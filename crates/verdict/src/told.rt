@@ -1,38 +1,29 @@
-//! What the tables publish.
-ghost use Rattle.std.specs.Prelude.{◌≡◌, ◌+◌, ◌*◌, ◌%◌, ◌^◌, ◌<◌, ◌≤◌, ◌++◌, length, take, drop};
+//! What the table of Out publishes.
+ghost use Rattle.std.specs.Prelude.{◌≡◌, ◌+◌, ◌*◌, ◌%◌, ◌^◌, ◌<◌, ◌≤◌, ◌++◌, [], length, take, drop, slice_index_or, All};
 ghost use Rattle.std.specs.Int.{to_le_bytes, w64};
-ghost use Rattle.machine_text.specs.Out;
-ghost use Rattle.machine_columns.specs.Accepted.{AreWellFormed, public_of, published};
-ghost use Rattle.machine_columns.specs.Values.{values_of};
-ghost use Rattle.verdict.specs.Told.{told_bytes, told_number};
+ghost use Rattle.verdict.specs.Told.{low_at, told_by, told_bytes, told_number};
 
-use gold::join_limbs;
-use machine_columns::{MachineColumns, columns_laws, publics_laws};
-use pil_ast::Columns;
+use gold::{Table, join_limbs};
 use rv_model::{OUTPUT_LEN, OUTPUT_WORDS, Public};
-use zk_layout::Namespace;
 
-// The low 32 bits of a value of Out.
-fn limb(columns: &MachineColumns, column: u32, row: u32) -> u32
-    requires tables { AreWellFormed columns.now.witness }
-    requires column { column < 4 }
-    requires row { row < 64 }
-    ensures { result ≡ (values_of columns.now.image columns.now.witness).at Out.here 0 column row % 2 ^ 32 }
+// The low 32 bits of a value.
+fn limb(table: &Table, column: usize, row: u32) -> u32
+    requires column { column < length table.now.columns }
+    requires row { row < length (slice_index_or table.now.columns column []) }
+    ensures { result ≡ low_at table.now column row }
 {
-    columns_laws();
-    publics_laws();
-    let value = columns.at(Namespace::Out.number(), 0, column, row);
+    let value = table.columns.at(column, row as usize);
     (value.value() % (1 << 32)) as u32
 }
 
-// The number that a row of Out publishes.
-fn number(columns: &MachineColumns, row: u32) -> u64
-    requires tables { AreWellFormed columns.now.witness }
+// The number that a row publishes.
+fn number(table: &Table, row: u32) -> u64
+    requires columns { length table.now.columns ≡ 2 }
+    requires rows { All (λ c. length c ≡ 64) table.now.columns }
     requires row { row < 33 }
-    ensures { result ≡ told_number (λ k. published columns.now.image columns.now.witness k % 2 ^ 32) row }
+    ensures { result ≡ told_number table.now row }
 {
-    publics_laws();
-    join_limbs(limb(columns, 2, row), limb(columns, 3, row))
+    join_limbs(limb(table, 0, row), limb(table, 1, row))
 }
 
 // Eight bytes of the output.
@@ -45,26 +36,27 @@ fn set_bytes(output: &mut [u8; OUTPUT_LEN], at: usize, value: u64)
 }
 
 // The doublewords of the output window, in the rows after the first.
-fn output(columns: &MachineColumns) -> [u8; OUTPUT_LEN]
-    requires { AreWellFormed columns.now.witness }
-    ensures { result ≡ told_bytes (λ k. published columns.now.image columns.now.witness k % 2 ^ 32) OUTPUT_WORDS }
+fn output(table: &Table) -> [u8; OUTPUT_LEN]
+    requires columns { length table.now.columns ≡ 2 }
+    requires rows { All (λ c. length c ≡ 64) table.now.columns }
+    ensures { result ≡ told_bytes table.now OUTPUT_WORDS }
 {
     let mut output = [0; OUTPUT_LEN];
     for i in 0..OUTPUT_WORDS {
-        let value = number(columns, i + 1);
+        let value = number(table, i + 1);
         set_bytes(&mut output, 8 * i as usize, value);
     }
     output
 }
 
-/// The public output that the tables have.
-#[tactic(auto, unfolding(crate::specs::Told::told_bytes))]
-pub(crate) fn public(columns: &MachineColumns) -> Public
-    requires { AreWellFormed columns.now.witness }
-    ensures { result ≡ public_of columns.now.image columns.now.witness }
+/// The public output that the table of Out tells.
+pub(crate) fn told_by(table: &Table) -> Public
+    requires columns { length table.now.columns ≡ 2 }
+    requires rows { All (λ c. length c ≡ 64) table.now.columns }
+    ensures { result ≡ told_by table.now }
 {
     Public {
-        exit: number(columns, 0),
-        output: output(columns),
+        exit: number(table, 0),
+        output: output(table),
     }
 }

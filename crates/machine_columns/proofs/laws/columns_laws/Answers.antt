@@ -1,5 +1,6 @@
 use Rattle.machine_columns.proofs.Machine.{fitting, machine_of}
 use Rattle.machine_columns.proofs.Tables.{table_value}
+use Rattle.machine_columns.proofs.Machine.{few_constant}
 use Rattle.machine_columns.proofs.laws.columns_laws.Goals as goal
 
 pub returns-clause-fits : goal.returns-clause-fits
@@ -18,3 +19,6 @@ returns-clause-machine c =
 
 pub returns-clause-tables : goal.returns-clause-tables
 returns-clause-tables c = table_value (record { airs = c.airs_by_number.ensures; spaces = c.namespaces_by_number.ensures })
+
+pub returns-clause-few : goal.returns-clause-few
+returns-clause-few c = few_constant
