@@ -1,0 +1,7 @@
+pub mod Forms
+pub mod Parts
+pub mod Steps
+pub mod Walk
+pub mod Fetch
+pub mod Loaded
+pub mod Halting
