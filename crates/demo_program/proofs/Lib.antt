@@ -1,5 +1,6 @@
 pub mod Forms
 pub mod Parts
+pub mod Listing
 pub mod Steps
 pub mod Walk
 pub mod Fetch
