@@ -1,7 +1,4 @@
 //! Files of small programs, with words computed by another program and read back by LLVM's disassembler.
-ghost use Rattle.std.specs.Prelude.{◌≤◌};
-ghost use Rattle.demo_program.specs.Demo.{IsSize};
-
 use crate::{DemoKind, demo_elf};
 use elf_load::load;
 use rv_model::run;
@@ -24,7 +21,9 @@ const END: [u32; 12] = [
 fn words(alloc: Global, file: &[u8], first: usize, count: usize) -> Result<Vec<u32>, AllocError> {
     let mut words = Vec::new(alloc);
     for word in file.chunks_exact(4).skip(30).skip(first).take(count) {
-        words.push(u32::from_le_bytes([word[0], word[1], word[2], word[3]]))?;
+        if let [a, b, c, d] = word {
+            words.push(u32::from_le_bytes([*a, *b, *c, *d]))?;
+        }
     }
     Ok(words)
 }
