@@ -1,19 +1,19 @@
 -- What an image of one segment of words fetches.
-use Rattle.std.proofs.Common.{◌≡◌, ◌==◌, ◌&&◌, ◌+◌, ◌-◌, ◌*◌, ◌/◌, ◌%◌, ◌^◌, ◌<◌, ◌≤◌, ℕ, zero, suc, Bool, true, nat_le, Option, Some, List, [], ◌∷◌, ◌++◌, length, map, take, All, slice_index, refl, ap, sym, subst, ◌∙◌, arith}
+use Rattle.std.proofs.Common.{◌≡◌, ◌==◌, ◌+◌, ◌-◌, ◌*◌, ◌%◌, ◌^◌, ◌<◌, ℕ, suc, true, Some, List, [], ◌∷◌, ◌++◌, length, All, slice_index, refl, ap, sym, ◌∙◌, arith}
 use Rattle.std.specs.List.{flat_map}
-use Rattle.std.specs.Int.{from_le_bytes, to_le_bytes, w32}
+use Rattle.std.specs.Int.{from_le_bytes, w32}
 use Rattle.std.proofs.lemmas.Bool.{eq-eqb}
 use Rattle.std.proofs.lemmas.Bool.Decides.{nat_tests}
 use Rattle.std.proofs.lemmas.List.{append_assoc, get_or-append-add, length-append}
 use Rattle.std.proofs.lemmas.Nat.{from_le_bytes-to_le_bytes_4}
 use Rattle.rv_word.specs.declared.instr.Instr.{Instr}
 use Rattle.rv_word.specs.Is.{Is, decoded}
-use Rattle.rv_word.specs.Encoding.{encoding, fixed_bits, operand_bits}
+use Rattle.rv_word.specs.Encoding.{encoding}
 use Rattle.rv_model.specs.Image.{Img, Seg, fetch, runs_at, word_in, byte_in}
 use Rattle.demo_program.specs.Tiny.{word}
 use Rattle.demo_program.specs.Tiny as tiny
 use Rattle.demo_program.specs.Demo.{words_of, HasWord}
-use Rattle.demo_program.proofs.Walk.{Placed, Laid, all_first, all_rest}
+use Rattle.demo_program.proofs.Walk.{Laid, all_first, all_rest}
 
 -- the segment of some words, and the image that begins at its first
 abbrev pub seg : List ℕ → Seg

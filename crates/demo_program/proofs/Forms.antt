@@ -1,5 +1,5 @@
 -- The words of the forms that demo programs have: each encoding is the instruction's word.
-use Rattle.std.proofs.Common.{◌≡◌, ◌≢◌, ◌+◌, ◌*◌, ◌/◌, ◌%◌, ◌^◌, ◌<◌, ℕ, ℤ, pos, ◌-ℤ◌, false, List, [], ◌∷◌, length, slice_index_or, refl, ap, sym, ◌∙◌, arith, lit<}
+use Rattle.std.proofs.Common.{◌≡◌, ◌+◌, ◌*◌, ◌/◌, ◌%◌, ◌^◌, ◌<◌, ℕ, ℤ, pos, ◌-ℤ◌, false, length, slice_index_or, refl, ap, sym, ◌∙◌, arith, lit<}
 use Rattle.std.specs.List.{AllByRecursion}
 use Rattle.std.proofs.lemmas.Int.{ints}
 use Rattle.std.proofs.lemmas.List.Elements.{All-from_recursion}
@@ -12,7 +12,7 @@ use Rattle.rv_word.specs.declared.instr.OpNo.{OpNo}
 use Rattle.rv_word.specs.declared.instr.OpNo.TheVariants as ops
 use Rattle.rv_word.specs.declared.instr.Kind.TheVariants.{Ld, Sd}
 use Rattle.rv_word.specs.declared.instr.Instr.{Instr}
-use Rattle.rv_word.specs.declared.instr.Instr.TheVariants.{Lui, Load, Store, OpImm, Op, Fence, Ecall}
+use Rattle.rv_word.specs.declared.instr.Instr.TheVariants.{Lui, Load, Store, OpImm, Op, Ecall}
 use Rattle.demo_program.specs.Demo.{HasWord}
 use Rattle.demo_program.specs.Program.{alu_operations, mul_operations}
 
@@ -54,38 +54,94 @@ has_words o k code f3 f7 h0 h1 h2 fixed within at rd rs1 rs2 h3 h4 h5 = r_word o
 pub alu_words : AllByRecursion HasWords alu_operations
 unfolding alu_operations rows fixed_bits op_number
 alu_words = (
-  has_words ops.Add 35 0x33 0 0x00 (lit< tt) (lit< tt) (lit< tt) (λ rd rs1 rs2. refl) (lit< tt) refl, (
-  has_words ops.Sub 36 0x33 0 0x20 (lit< tt) (lit< tt) (lit< tt) (λ rd rs1 rs2. refl) (lit< tt) refl, (
-  has_words ops.Lt 38 0x33 2 0x00 (lit< tt) (lit< tt) (lit< tt) (λ rd rs1 rs2. refl) (lit< tt) refl, (
-  has_words ops.Ltu 39 0x33 3 0x00 (lit< tt) (lit< tt) (lit< tt) (λ rd rs1 rs2. refl) (lit< tt) refl, (
-  has_words ops.Xor 40 0x33 4 0x00 (lit< tt) (lit< tt) (lit< tt) (λ rd rs1 rs2. refl) (lit< tt) refl, (
-  has_words ops.Or 43 0x33 6 0x00 (lit< tt) (lit< tt) (lit< tt) (λ rd rs1 rs2. refl) (lit< tt) refl, (
-  has_words ops.And 44 0x33 7 0x00 (lit< tt) (lit< tt) (lit< tt) (λ rd rs1 rs2. refl) (lit< tt) refl, (
-  has_words ops.Sll 37 0x33 1 0x00 (lit< tt) (lit< tt) (lit< tt) (λ rd rs1 rs2. refl) (lit< tt) refl, (
-  has_words ops.Srl 41 0x33 5 0x00 (lit< tt) (lit< tt) (lit< tt) (λ rd rs1 rs2. refl) (lit< tt) refl, (
-  has_words ops.Sra 42 0x33 5 0x20 (lit< tt) (lit< tt) (lit< tt) (λ rd rs1 rs2. refl) (lit< tt) refl, (
-  has_words ops.Addw 45 0x3b 0 0x00 (lit< tt) (lit< tt) (lit< tt) (λ rd rs1 rs2. refl) (lit< tt) refl, (
-  has_words ops.Subw 46 0x3b 0 0x20 (lit< tt) (lit< tt) (lit< tt) (λ rd rs1 rs2. refl) (lit< tt) refl, (
-  has_words ops.Sllw 47 0x3b 1 0x00 (lit< tt) (lit< tt) (lit< tt) (λ rd rs1 rs2. refl) (lit< tt) refl, (
-  has_words ops.Srlw 48 0x3b 5 0x00 (lit< tt) (lit< tt) (lit< tt) (λ rd rs1 rs2. refl) (lit< tt) refl, (
-  has_words ops.Sraw 49 0x3b 5 0x20 (lit< tt) (lit< tt) (lit< tt) (λ rd rs1 rs2. refl) (lit< tt) refl, tt)))))))))))))))
+  has_words ops.Add 35 0x33 0 0x00 (lit< tt) (lit< tt) (lit< tt) (λ rd rs1 rs2. refl) (lit< tt) refl,
+  (
+    has_words ops.Sub 36 0x33 0 0x20 (lit< tt) (lit< tt) (lit< tt) (λ rd rs1 rs2. refl) (lit< tt) refl,
+    (
+      has_words ops.Lt 38 0x33 2 0x00 (lit< tt) (lit< tt) (lit< tt) (λ rd rs1 rs2. refl) (lit< tt) refl,
+      (
+        has_words ops.Ltu 39 0x33 3 0x00 (lit< tt) (lit< tt) (lit< tt) (λ rd rs1 rs2. refl) (lit< tt) refl,
+        (
+          has_words ops.Xor 40 0x33 4 0x00 (lit< tt) (lit< tt) (lit< tt) (λ rd rs1 rs2. refl) (lit< tt) refl,
+          (
+            has_words ops.Or 43 0x33 6 0x00 (lit< tt) (lit< tt) (lit< tt) (λ rd rs1 rs2. refl) (lit< tt) refl,
+            (
+              has_words ops.And 44 0x33 7 0x00 (lit< tt) (lit< tt) (lit< tt) (λ rd rs1 rs2. refl) (lit< tt) refl,
+              (
+                has_words ops.Sll 37 0x33 1 0x00 (lit< tt) (lit< tt) (lit< tt) (λ rd rs1 rs2. refl) (lit< tt) refl,
+                (
+                  has_words ops.Srl 41 0x33 5 0x00 (lit< tt) (lit< tt) (lit< tt) (λ rd rs1 rs2. refl) (lit< tt) refl,
+                  (
+                    has_words ops.Sra 42 0x33 5 0x20 (lit< tt) (lit< tt) (lit< tt) (λ rd rs1 rs2. refl) (lit< tt) refl,
+                    (
+                      has_words ops.Addw 45 0x3b 0 0x00 (lit< tt) (lit< tt) (lit< tt) (λ rd rs1 rs2. refl) (lit< tt) refl,
+                      (
+                        has_words ops.Subw 46 0x3b 0 0x20 (lit< tt) (lit< tt) (lit< tt) (λ rd rs1 rs2. refl) (lit< tt) refl,
+                        (
+                          has_words ops.Sllw 47 0x3b 1 0x00 (lit< tt) (lit< tt) (lit< tt) (λ rd rs1 rs2. refl) (lit< tt) refl,
+                          (
+                            has_words ops.Srlw 48 0x3b 5 0x00 (lit< tt) (lit< tt) (lit< tt) (λ rd rs1 rs2. refl) (lit< tt) refl,
+                            (
+                              has_words ops.Sraw 49 0x3b 5 0x20 (lit< tt) (lit< tt) (lit< tt) (λ rd rs1 rs2. refl) (lit< tt) refl,
+                              tt,
+                            ),
+                          ),
+                        ),
+                      ),
+                    ),
+                  ),
+                ),
+              ),
+            ),
+          ),
+        ),
+      ),
+    ),
+  ),
+)
 
 pub mul_words : AllByRecursion HasWords mul_operations
 unfolding mul_operations rows fixed_bits op_number
 mul_words = (
-  has_words ops.Mul 50 0x33 0 0x01 (lit< tt) (lit< tt) (lit< tt) (λ rd rs1 rs2. refl) (lit< tt) refl, (
-  has_words ops.Mulh 51 0x33 1 0x01 (lit< tt) (lit< tt) (lit< tt) (λ rd rs1 rs2. refl) (lit< tt) refl, (
-  has_words ops.Mulhsu 52 0x33 2 0x01 (lit< tt) (lit< tt) (lit< tt) (λ rd rs1 rs2. refl) (lit< tt) refl, (
-  has_words ops.Mulhu 53 0x33 3 0x01 (lit< tt) (lit< tt) (lit< tt) (λ rd rs1 rs2. refl) (lit< tt) refl, (
-  has_words ops.Div 54 0x33 4 0x01 (lit< tt) (lit< tt) (lit< tt) (λ rd rs1 rs2. refl) (lit< tt) refl, (
-  has_words ops.Divu 55 0x33 5 0x01 (lit< tt) (lit< tt) (lit< tt) (λ rd rs1 rs2. refl) (lit< tt) refl, (
-  has_words ops.Rem 56 0x33 6 0x01 (lit< tt) (lit< tt) (lit< tt) (λ rd rs1 rs2. refl) (lit< tt) refl, (
-  has_words ops.Remu 57 0x33 7 0x01 (lit< tt) (lit< tt) (lit< tt) (λ rd rs1 rs2. refl) (lit< tt) refl, (
-  has_words ops.Mulw 58 0x3b 0 0x01 (lit< tt) (lit< tt) (lit< tt) (λ rd rs1 rs2. refl) (lit< tt) refl, (
-  has_words ops.Divw 59 0x3b 4 0x01 (lit< tt) (lit< tt) (lit< tt) (λ rd rs1 rs2. refl) (lit< tt) refl, (
-  has_words ops.Divuw 60 0x3b 5 0x01 (lit< tt) (lit< tt) (lit< tt) (λ rd rs1 rs2. refl) (lit< tt) refl, (
-  has_words ops.Remw 61 0x3b 6 0x01 (lit< tt) (lit< tt) (lit< tt) (λ rd rs1 rs2. refl) (lit< tt) refl, (
-  has_words ops.Remuw 62 0x3b 7 0x01 (lit< tt) (lit< tt) (lit< tt) (λ rd rs1 rs2. refl) (lit< tt) refl, tt)))))))))))))
+  has_words ops.Mul 50 0x33 0 0x01 (lit< tt) (lit< tt) (lit< tt) (λ rd rs1 rs2. refl) (lit< tt) refl,
+  (
+    has_words ops.Mulh 51 0x33 1 0x01 (lit< tt) (lit< tt) (lit< tt) (λ rd rs1 rs2. refl) (lit< tt) refl,
+    (
+      has_words ops.Mulhsu 52 0x33 2 0x01 (lit< tt) (lit< tt) (lit< tt) (λ rd rs1 rs2. refl) (lit< tt) refl,
+      (
+        has_words ops.Mulhu 53 0x33 3 0x01 (lit< tt) (lit< tt) (lit< tt) (λ rd rs1 rs2. refl) (lit< tt) refl,
+        (
+          has_words ops.Div 54 0x33 4 0x01 (lit< tt) (lit< tt) (lit< tt) (λ rd rs1 rs2. refl) (lit< tt) refl,
+          (
+            has_words ops.Divu 55 0x33 5 0x01 (lit< tt) (lit< tt) (lit< tt) (λ rd rs1 rs2. refl) (lit< tt) refl,
+            (
+              has_words ops.Rem 56 0x33 6 0x01 (lit< tt) (lit< tt) (lit< tt) (λ rd rs1 rs2. refl) (lit< tt) refl,
+              (
+                has_words ops.Remu 57 0x33 7 0x01 (lit< tt) (lit< tt) (lit< tt) (λ rd rs1 rs2. refl) (lit< tt) refl,
+                (
+                  has_words ops.Mulw 58 0x3b 0 0x01 (lit< tt) (lit< tt) (lit< tt) (λ rd rs1 rs2. refl) (lit< tt) refl,
+                  (
+                    has_words ops.Divw 59 0x3b 4 0x01 (lit< tt) (lit< tt) (lit< tt) (λ rd rs1 rs2. refl) (lit< tt) refl,
+                    (
+                      has_words ops.Divuw 60 0x3b 5 0x01 (lit< tt) (lit< tt) (lit< tt) (λ rd rs1 rs2. refl) (lit< tt) refl,
+                      (
+                        has_words ops.Remw 61 0x3b 6 0x01 (lit< tt) (lit< tt) (lit< tt) (λ rd rs1 rs2. refl) (lit< tt) refl,
+                        (
+                          has_words ops.Remuw 62 0x3b 7 0x01 (lit< tt) (lit< tt) (lit< tt) (λ rd rs1 rs2. refl) (lit< tt) refl,
+                          tt,
+                        ),
+                      ),
+                    ),
+                  ),
+                ),
+              ),
+            ),
+          ),
+        ),
+      ),
+    ),
+  ),
+)
 
 -- the fields of a word of form I, with an immediate's twelve bits
 record IFields (code f3 rd rs1 imm w : ℕ) : Type 0 where

@@ -1,5 +1,5 @@
 -- A demo program's run.
-use Rattle.std.proofs.Common.{◌≡◌, ◌==◌, Some, ◌/◌, ◌+◌, ◌-◌, ◌*◌, ◌%◌, ◌^◌, ◌<◌, ◌≤◌, ℕ, suc, ℤ, pos, ◌-ℤ◌, Bool, true, false, List, [], ◌∷◌, ◌++◌, length, map, All, slice_index, slice_set, refl, ap, sym, subst, ◌∙◌, arith, lit<, if◌then◌else◌}
+use Rattle.std.proofs.Common.{◌≡◌, ◌==◌, Some, ◌/◌, ◌+◌, ◌-◌, ◌%◌, ◌^◌, ◌<◌, ◌≤◌, ℕ, suc, pos, ◌-ℤ◌, false, List, [], ◌∷◌, ◌++◌, length, All, slice_index, slice_set, refl, ap, sym, subst, ◌∙◌, arith, lit<}
 use Rattle.std.specs.List.{range_with_len}
 use Rattle.std.proofs.lemmas.Bool.{cond_both, eq-eqb}
 use Rattle.std.proofs.lemmas.List.{length-append, length-map, get_or-set_same, get_or-set_other}
@@ -22,10 +22,10 @@ use Rattle.demo_program.specs.Draws.{draw}
 use Rattle.demo_program.specs.Program.{rd, rs1, rs2, rest, offset, drawn, set_base, set_value, put_out, leave, instructions}
 use Rattle.demo_program.specs.Demo.{words_of, demo_file, IsSize}
 use Rattle.demo_program.proofs.Parts.{values, body, outputs, in_range, instructions_words}
-use Rattle.demo_program.proofs.Steps.{Holds, Leads, LeadsOn, IsBase, leads_with_base, leads_with_reg, operation_leads, set_leads, load_leads, store_leads}
-use Rattle.demo_program.proofs.Walk.{Placed, Laid, At, one, one_state, step_is, along, laid_first, laid_second}
+use Rattle.demo_program.proofs.Steps.{Leads, LeadsOn, IsBase, leads_with_base, leads_with_reg, operation_leads, set_leads, load_leads, store_leads}
+use Rattle.demo_program.proofs.Walk.{Laid, At, one, one_state, step_is, along, laid_first, laid_second}
 use Rattle.demo_program.proofs.Fetch.{image_of, laid_from}
-use Rattle.demo_program.proofs.Loaded.{IsCount, loads}
+use Rattle.demo_program.proofs.Loaded.{loads}
 
 -- how many instructions there are
 pub length_instructions : (number : ℕ) (kind : DemoKind) (size : ℕ) → length (instructions number kind size) ≡ size + 21
@@ -140,13 +140,16 @@ leaves image m b few at laid =
 
 runs_to : (image : Img) (n m : ℕ) → n ≡ suc m → Ready image m → (public : Public) × RunsTo image n public × (public.exit ≡ 0)
 runs_to image n m e ready =
-    let back : m ≡ n - 1 = omega arith in
-    (public_of (state_at image (n - 1)), record {
-      some = omega arith;
-      on = λ j below. ready.led j (omega arith);
-      halt = subst (λ (k : ℕ). step_at image k ≡ Halt) back ready.halts;
-      told = refl;
-    }, subst (λ (k : ℕ). reg (state_at image k) 10 ≡ 0) back ready.exit)
+    let back : m ≡ n - 1 = omega arith in (
+      public_of (state_at image (n - 1)),
+      record {
+        some = omega arith;
+        on = λ j below. ready.led j (omega arith);
+        halt = subst (λ (k : ℕ). step_at image k ≡ Halt) back ready.halts;
+        told = refl;
+      },
+      subst (λ (k : ℕ). reg (state_at image k) 10 ≡ 0) back ready.exit,
+    )
 
 abbrev pub words : ℕ → DemoKind → ℕ → List ℕ
 words number kind size = words_of (instructions number kind size)

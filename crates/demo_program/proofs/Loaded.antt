@@ -1,14 +1,13 @@
 -- The least file of some words loads, as one segment.
-use Rattle.std.proofs.Common.{◌≡◌, ◌≢◌, ◌==◌, ◌&&◌, ◌||◌, ◌-◌, ◌⊎◌, inl, inr, ◌+◌, ◌*◌, ◌/◌, ◌%◌, ◌^◌, ◌<◌, ◌≤◌, ◌↔◌, ℕ, zero, suc, Bool, true, false, nat_eq, nat_lt, nat_le, min, List, [], ◌∷◌, ◌++◌, length, take, drop, slice_index, AllPairs, Contains, IsTrue, refl, ap, sym, subst, ◌∙◌, arith, lit<}
+use Rattle.std.proofs.Common.{◌≡◌, ◌-◌, inl, inr, ◌+◌, ◌*◌, ◌^◌, ◌<◌, ◌≤◌, ℕ, zero, suc, Bool, true, false, nat_eq, min, List, [], ◌∷◌, length, take, drop, slice_index, Contains, refl, ap, sym, subst, ◌∙◌, arith}
 use Rattle.std.specs.List.{flat_map, starts_with}
 use Rattle.std.specs.Int.{to_le_bytes, w64}
 use Rattle.std.proofs.lemmas.Bool.Decides.{nat_tests}
-use Rattle.std.proofs.lemmas.List.{length-append, take_all}
+use Rattle.std.proofs.lemmas.List.{take_all}
 use Rattle.std.proofs.lemmas.Nat.{from_le_bytes-to_le_bytes_8}
 use Rattle.byteorder.specs.Endian.{little_number}
-use Rattle.rv_model.specs.Image.{Img, Seg}
-use Rattle.rv_model.specs.declared.machine.TheConstants.{MOST_LOADED}
-use Rattle.elf_load.specs.File.{u16_at, u32_at, u64_at, header_at, header, header_offset, headers_of, e_type, e_machine, e_entry, e_phoff, e_phentsize, e_phnum, At}
+use Rattle.rv_model.specs.Image.{Seg}
+use Rattle.elf_load.specs.File.{u16_at, u32_at, u64_at, header_at, header, headers_of, e_type, e_machine, e_entry, e_phoff, e_phentsize, e_phnum, At}
 use Rattle.elf_load.specs.Header.{is_dynamic, lacks_bytes, is_out_of_range, has_memory, holds_word}
 use Rattle.elf_load.specs.Refusal.{Fails, HasWord, data_size}
 use Rattle.elf_load.specs.Loads.{segment, Loads}

@@ -1,16 +1,15 @@
 -- Which instructions lead on, and keep x0 and x5.
-use Rattle.std.proofs.Common.{◌≡◌, ◌≢◌, ◌==◌, ◌+◌, ◌*◌, ◌/◌, ◌%◌, ◌^◌, ◌<◌, ◌≤◌, ◌⊎◌, inl, inr, ℕ, ℤ, pos, Bool, true, false, nat_lt, List, length, slice_index, slice_set, if◌then◌else◌, refl, ap, sym, subst, ◌∙◌, arith}
+use Rattle.std.proofs.Common.{◌≡◌, ◌≢◌, ◌==◌, ◌+◌, ◌*◌, ◌/◌, ◌%◌, ◌^◌, ◌<◌, ◌≤◌, ℕ, ℤ, pos, Bool, true, false, nat_lt, List, length, slice_index, slice_set, if◌then◌else◌, refl, sym, subst, ◌∙◌, arith}
 use Rattle.std.proofs.lemmas.Int.{ints}
-use Rattle.std.proofs.lemmas.Bool.{eqb-true, eq-eqb, lt-ltb, cond_both}
+use Rattle.std.proofs.lemmas.Bool.{eq-eqb, lt-ltb, cond_both}
 use Rattle.std.proofs.lemmas.List.{get_or-set_same, get_or-set_other, length-set}
-use Rattle.rv_word.specs.declared.instr.Kind.{Kind}
 use Rattle.rv_word.specs.declared.instr.Kind.TheVariants.{Ld, Sd}
 use Rattle.rv_word.specs.declared.instr.OpNo.{OpNo}
 use Rattle.rv_word.specs.declared.instr.Instr.{Instr}
-use Rattle.rv_word.specs.declared.instr.Instr.TheVariants.{Lui, Load, Store, OpImm, Op}
-use Rattle.rv_model.specs.Op.{bits_of, value_of}
+use Rattle.rv_word.specs.declared.instr.Instr.TheVariants.{Load, Store, OpImm, Op}
+use Rattle.rv_model.specs.Op.{bits_of}
 use Rattle.rv_model.specs.Align.{aligned}
-use Rattle.rv_model.specs.State.{State, Answer, Next, Fault, wrapped, reg, operand, with_reg, next_with_reg, next_with_store, executed, load, store}
+use Rattle.rv_model.specs.State.{State, Answer, Next, wrapped, reg, with_reg, next_with_reg, next_with_store, executed, load, store}
 use Rattle.rv_model.specs.declared.machine.TheConstants.{MEMORY_END}
 
 -- 32 registers, of which x0 is 0 and x5 has a value

@@ -1,10 +1,10 @@
 -- A run along a list of instructions that lead on.
-use Rattle.std.proofs.Common.{◌≡◌, ◌+◌, ◌*◌, ◌%◌, ◌^◌, ◌<◌, ◌≤◌, ◌⊎◌, inl, inr, ℕ, zero, suc, Option, Some, List, [], ◌∷◌, ◌++◌, length, All, AllPairs, slice_index, refl, ap, sym, subst, ◌∙◌, arith, add-one}
+use Rattle.std.proofs.Common.{◌≡◌, ◌+◌, ◌*◌, ◌^◌, ◌<◌, ◌≤◌, inl, inr, ℕ, suc, Option, Some, List, [], ◌∷◌, ◌++◌, length, All, ap, sym, subst, ◌∙◌, arith}
 use Rattle.std.proofs.lemmas.Bool.{cases_lt}
 use Rattle.rv_word.specs.declared.instr.Instr.{Instr}
 use Rattle.rv_word.specs.Is.{decoded}
 use Rattle.rv_model.specs.Image.{Img, fetch}
-use Rattle.rv_model.specs.State.{State, Answer, Next, step, start, executed, executed_fetch, executed_word, wrapped}
+use Rattle.rv_model.specs.State.{State, Answer, Next, step, executed, executed_fetch, executed_word, wrapped}
 use Rattle.rv_model.specs.Run.{state_at, step_at, moved, IsNext, MeetsLimit}
 use Rattle.demo_program.specs.Tiny as tiny
 use Rattle.demo_program.proofs.Steps.{Holds, Leads, LeadsOn}
@@ -42,9 +42,9 @@ meets_more : (image : Img) (j : ℕ) (t : State) → step_at image j ≡ Next t 
 meets_more image j t is led k below = elim (cases_lt k j) [
   | inl earlier ↦ led k earlier
   | inr later ↦
-    let same : j ≡ k = omega arith in
-    let P : Answer → Type 0 = IsNext in
-    subst (λ (m : ℕ). IsNext (step_at image m)) same (subst P (sym is) tt)
+      let same : j ≡ k = omega arith in
+      let P : Answer → Type 0 = IsNext in
+      subst (λ (m : ℕ). IsNext (step_at image m)) same (subst P (sym is) tt)
 ]
 
 next_pc : (p j : ℕ) → p ≡ tiny.start + 4 * j → j < 2 ^ 32 → wrapped (p + 4) ≡ tiny.start + 4 * suc j

@@ -1,5 +1,5 @@
 -- The file of a demo program.
-use Rattle.std.specs.Prelude.{◌≡◌, ◌≢◌, ◌≤◌, ℕ, List, map}
+use Rattle.std.specs.Prelude.{◌≢◌, ◌≤◌, ℕ, List, map}
 use Rattle.rv_word.specs.Encoding.{encoding}
 use Rattle.rv_word.specs.Is.{Is}
 use Rattle.rv_word.specs.declared.instr.Instr.{Instr}

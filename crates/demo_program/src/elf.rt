@@ -10,9 +10,7 @@ use std::alloc::{AllocError, Global};
 const START: u64 = 0x1_0078;
 
 /// The magic, 64 bits, the low byte first, version 1.
-const IDENT: [u8; 16] = [
-    0x7F, 0x45, 0x4C, 0x46, 2, 1, 1, 0, 0, 0, 0, 0, 0, 0, 0, 0,
-];
+const IDENT: [u8; 16] = [0x7F, 0x45, 0x4C, 0x46, 2, 1, 1, 0, 0, 0, 0, 0, 0, 0, 0, 0];
 
 fn push_half(file: &mut Vec<u8>, number: u16) -> Result<(), AllocError>
     ensures { OnOk result (file.new.items ≡ file.old.items ++ half number) }

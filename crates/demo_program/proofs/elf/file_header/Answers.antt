@@ -1,4 +1,4 @@
-use Rattle.std.proofs.Common.{◌≡◌, ◌++◌, ℕ, List, ap, ◌∙◌}
+use Rattle.std.proofs.Common.{◌++◌, ℕ, List, ap, ◌∙◌}
 use Rattle.demo_program.specs.Tiny.{half, word, long, start, file_header}
 use Rattle.demo_program.proofs.elf.file_header.Goals as goal
 

@@ -1,4 +1,4 @@
-use Rattle.std.proofs.Common.{◌≡◌, ◌++◌, ℕ, List, ap, ◌∙◌}
+use Rattle.std.proofs.Common.{◌++◌, ℕ, List, ap, ◌∙◌}
 use Rattle.demo_program.specs.Tiny.{word, long, start, program_header}
 use Rattle.demo_program.proofs.elf.program_header.Goals as goal
 

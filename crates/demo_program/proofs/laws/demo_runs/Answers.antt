@@ -1,4 +1,4 @@
-use Rattle.std.proofs.Common.{subst, ◌≡◌, ◌+◌, [], ℕ}
+use Rattle.std.proofs.Common.{subst, ◌≡◌, ◌+◌, []}
 use Rattle.rv_model.specs.Image.{Img}
 use Rattle.rv_model.specs.Run.{RunsTo}
 use Rattle.rv_model.specs.declared.answer.Public.{Public}

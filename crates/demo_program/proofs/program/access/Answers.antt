@@ -1,4 +1,4 @@
-use Rattle.std.proofs.Common.{◌≡◌, ◌==◌, ◌*◌, ◌/◌, ◌%◌, pos, ℤ, to_z, w64, arith, sym, ◌∙◌, true, false}
+use Rattle.std.proofs.Common.{◌≡◌, ◌==◌, ◌*◌, ◌/◌, ◌%◌, pos, to_z, w64, arith, sym, ◌∙◌, true, false}
 use Rattle.std.proofs.lemmas.Int.{ints}
 use Rattle.std.proofs.lemmas.Bool.{cond-true, cond-false, eq-eqb}
 use Rattle.rv_word.specs.declared.instr.Kind.TheVariants.{Ld, Sd}

@@ -1,6 +1,5 @@
-use Rattle.std.proofs.Common.{◌≡◌, ◌<◌, ◌+◌, ◌^◌, List, All, IfOk, length, ap, sym, subst, ◌∙◌, arith}
+use Rattle.std.proofs.Common.{◌≡◌, ◌+◌, List, All, IfOk, length, ap, sym, subst, ◌∙◌, arith}
 use Rattle.rv_word.specs.declared.instr.Instr.{Instr}
-use Rattle.demo_program.specs.Program.{instructions}
 use Rattle.demo_program.specs.Tiny.{tiny}
 use Rattle.demo_program.specs.Demo.{demo_file, words_of, HasWord}
 use Rattle.demo_program.proofs.Parts.{instructions_words}

@@ -1,6 +1,4 @@
-use Rattle.std.proofs.Common.{◌≡◌, ◌*◌, ℤ, pos, ◌*ℤ◌, arith, ap}
-use Rattle.std.proofs.lemmas.Int.{ints}
-use Rattle.rv_word.specs.declared.instr.Instr.{Instr}
+use Rattle.std.proofs.Common.{arith}
 use Rattle.demo_program.specs.Program.{put_out}
 use Rattle.demo_program.proofs.Listing.{pushed, put_out_is}
 use Rattle.demo_program.proofs.program.push_output.Goals as goal

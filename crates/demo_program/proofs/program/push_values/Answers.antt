@@ -1,7 +1,5 @@
-use Rattle.std.proofs.Common.{◌≡◌, ◌*◌, ℤ, pos, ◌-ℤ◌, arith, ap, sym, ◌∙◌}
-use Rattle.std.proofs.lemmas.Int.{ints}
+use Rattle.std.proofs.Common.{sym, ◌∙◌}
 use Rattle.std.proofs.lemmas.List.{append-nil}
-use Rattle.rv_word.specs.declared.instr.Instr.{Instr}
 use Rattle.demo_program.specs.Program.{set_value}
 use Rattle.demo_program.proofs.Listing.{pushed, state_none, state_more, set_value_is}
 use Rattle.demo_program.proofs.program.push_values.Goals as goal
