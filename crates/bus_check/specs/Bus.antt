@@ -7,7 +7,9 @@ use Rattle.std.specs.Global.{Vec}
 use Rattle.pil_ast.specs.Term.{Tuples, Line, lookup, bus, Namespace}
 use Rattle.pil_ast.specs.Columns.{Columns}
 use Rattle.pil_ast.specs.Holds.{times, selected, tuple}
-use Rattle.pil_ast.specs.Broken.{ComesBefore}
+use Rattle.pil_ast.specs.Broken.{ComesBefore, DiffersFirst}
+use Rattle.row_check.specs.declared.broken.Broken.{Broken}
+use Rattle.row_check.specs.declared.broken.Broken.TheVariants.{At, Counts}
 use Rattle.pil_ast.specs.Sound.{IsTerm, IsSelector}
 
 -- the line is an `in` or an `is`
@@ -52,6 +54,11 @@ pub record PartAt (xs ys : List (List ℕ)) (n : ℕ) : Type 0 where
 pub record IsOrdered (xs ts : List (List ℕ)) : Type 0 where
   pub ascend : Ascend ts
   pub times : (t : List ℕ) → times t ts ≡ times t xs
+
+-- the answer names line k, and the least tuple that two lists don't have equally often, with both counts
+abbrev pub DiffersBy : ℕ → List (List ℕ) → List (List ℕ) → Broken → Type 0
+DiffersBy k xs ys (Counts line t m n) = (line ≡ k) × DiffersFirst xs ys t m n
+DiffersBy k xs ys (At line i r) = ⊥
 
 -- the tuple of row r of instance i is among ts, or the row isn't selected
 abbrev pub StandsAt : List Namespace → Columns → Tuples → List (List ℕ) → ℕ → ℕ → Type 0

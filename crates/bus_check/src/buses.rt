@@ -5,10 +5,10 @@ ghost use Rattle.pil_ast.specs.Term.{bus};
 ghost use Rattle.pil_ast.specs.Columns.{Fits};
 ghost use Rattle.pil_ast.specs.Sound.{IsSound};
 ghost use Rattle.pil_ast.specs.Filled.{IsMadeOf};
-ghost use Rattle.pil_ast.specs.Holds.{Holds, all_sent, times};
+ghost use Rattle.pil_ast.specs.Holds.{AsOften, Holds, all_sent, times};
 ghost use Rattle.row_check.specs.Breaks.{IsBreakOf};
 ghost use Rattle.row_check.specs.declared.broken.Broken.TheVariants.{Counts};
-ghost use Rattle.bus_check.specs.Bus.{IsListOf, IsOrdered};
+ghost use Rattle.bus_check.specs.Bus.{IsListOf, IsOrdered, DiffersBy};
 
 use crate::rows::push_lists;
 use crate::tuples::TupleList;
@@ -57,6 +57,28 @@ fn unequal_counts(
         left,
         right,
     })
+}
+
+/// The least tuple that the sides of an `is`, which has this number, don't have equally often.
+pub fn first_difference(
+    alloc: Global,
+    line: u32,
+    left: TupleList,
+    right: TupleList,
+) -> Result<Option<Broken>, AllocError>
+    ensures { IfOk result (λ found. MatchOption found (AsOften left right) (λ broken. DiffersBy line left right broken)) }
+{
+    let mut left = left;
+    let mut right = right;
+    left.sort();
+    right.sort();
+    match left.difference(&right) {
+        None => Ok(None),
+        Some(tuple) => {
+            let broken = unequal_counts(alloc, line, tuple, &left, &right)?;
+            Ok(Some(broken))
+        }
+    }
 }
 
 /// Checks an `is` between two sums of lists, which has this number.

@@ -10,8 +10,10 @@ mod order;
 mod rows;
 mod tuples;
 
+pub use buses::first_difference;
 pub use laws::one_verdict;
 pub use lines::{check_bus, first_broken};
+pub use tuples::TupleList;
 
 #[cfg(test)]
 mod tests;

@@ -1,5 +1,5 @@
 //! The order of tuples: they are compared number by number from the first.
-ghost use Rattle.std.specs.Prelude.{◌≡◌, ◌≢◌, ◌↔◌, List, ℕ, cond, IsTrue, MatchOption};
+ghost use Rattle.std.specs.Prelude.{◌≡◌, ◌≢◌, ◌<◌, ◌↔◌, ◌∷◌, [], List, ℕ, true, cond, IsTrue, MatchOption};
 ghost use Rattle.std.specs.Ordering.{nat_cmp, is_lt};
 ghost use Rattle.std.specs.Cmp.Lexicographic.{slice_cmp};
 ghost use Rattle.pil_ast.specs.Holds.{times};
@@ -38,6 +38,28 @@ pub fn occurrences(tuples: &[Vec<u64>], tuple: &[u64]) -> u64
         }
     }
     count
+}
+
+/// Whether a tuple is one number alone.
+fn is_alone(tuple: &[u64], value: u64) -> bool
+    ensures { result ≡ true → tuple.now ≡ value ∷ [] }
+{
+    match tuple {
+        [only] => *only == value,
+        _ => false,
+    }
+}
+
+/// How many of the numbers 0, 1, 2 and so on a list begins with, each as a tuple of its own.
+pub fn counted(tuples: &[Vec<u64>]) -> u64
+    ensures { (v : ℕ) → v < result → times (v ∷ []) (numbers tuples.now) ≢ 0 }
+{
+    for place in 0..tuples.len() {
+        if !is_alone(tuples[place].as_slice(), place as u64) {
+            return place as u64;
+        }
+    }
+    tuples.len() as u64
 }
 
 /// Whether a tuple stands in a list that is in order.

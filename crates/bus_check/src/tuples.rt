@@ -1,9 +1,9 @@
 //! Lists of tuples.
-ghost use Rattle.std.specs.Prelude.{◌≡◌, ◌≢◌, ◌↔◌, ◌++◌, ◌∷◌, List, ℕ, [], map, IsTrue, OnOk, MatchOption};
+ghost use Rattle.std.specs.Prelude.{◌≡◌, ◌≢◌, ◌<◌, ◌↔◌, ◌++◌, ◌∷◌, List, ℕ, [], map, IsTrue, OnOk, MatchOption};
 ghost use Rattle.pil_ast.specs.Holds.{times};
 ghost use Rattle.bus_check.specs.Bus.{numbers, Ascend, IsLeast};
 
-use crate::order::{least_difference, occurrences, stands_in};
+use crate::order::{counted, least_difference, occurrences, stands_in};
 use std::alloc::{AllocError, Global};
 use std::marker::Model;
 
@@ -38,6 +38,24 @@ impl TupleList {
     {
         self.tuples.push(tuple)?;
         Ok(())
+    }
+
+    /// Puts copies of another list's tuples at the end.
+    pub fn extend(&mut self, alloc: Global, other: &TupleList) -> Result<(), AllocError>
+        ensures { OnOk result (self.new ≡ self.old ++ other.now) }
+    {
+        for tuple in other.tuples.as_slice() {
+            self.push(Vec::from_slice(alloc, tuple.as_slice())?)?;
+        }
+        Ok(())
+    }
+
+    /// A number below which each number stands in the list as a tuple of its own: all of them, where the
+    /// list is 0, 1, 2 and so on.
+    pub fn counted(&self) -> u64
+        ensures { (v : ℕ) → v < result → times (v ∷ []) self.now ≢ 0 }
+    {
+        counted(&self.tuples)
     }
 
     /// Puts the tuples in order. It takes no memory.

@@ -173,7 +173,7 @@ placed_in x hs up =
           (λ k d l q. let inside : i < length hs = omega arith in let first : x.p_vaddr ≤ (get_or hs i d).p_vaddr = ltb-false (get_or hs i d).p_vaddr x.p_vaddr (prefix_len_stops low hs d inside) in omega (arith, first, up i k d l q)),
     )
 
-in_order : (hs : List ProgramHeader) → (sorted : List ProgramHeader) × IsPermutation hs sorted × IsNonDecreasingBy (λ h. h.p_vaddr) sorted
+pub in_order : (hs : List ProgramHeader) → (sorted : List ProgramHeader) × IsPermutation hs sorted × IsNonDecreasingBy (λ h. h.p_vaddr) sorted
 in_order [] = ([], IsPermutation-refl [], IsNonDecreasingBy-short (λ h. h.p_vaddr) [] (omega arith))
 in_order (x ∷ hs) =
     let rest = in_order hs in

@@ -6,3 +6,4 @@ pub mod Placing
 pub mod Unique
 pub mod Decided
 pub mod Size
+pub mod Loaded

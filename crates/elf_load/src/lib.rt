@@ -13,5 +13,5 @@ mod program_headers;
 mod tests;
 
 pub use error::ElfErr;
-pub use laws::{exact_size, input_apart, one_answer};
+pub use laws::{exact_size, input_apart, loaded_is_loadable, one_answer};
 pub use loading::load;

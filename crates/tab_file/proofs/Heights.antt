@@ -15,6 +15,7 @@ use Rattle.gold.specs.Shapes.{Place, in_profile, instances_from, places_from, Fi
 use Rattle.zk_layout.specs.Air.{columns_per, machine_airs, machine_shape_of}
 use Rattle.tab_file.specs.Format.{number, version, header, instance_text, rows_at, text}
 use Rattle.tab_file.specs.Steps.{height}
+use Rattle.tab_file.specs.Pieces.{IsSmall}
 use Rattle.tab_file.proofs.Takes.{AreKnown}
 use Rattle.tab_file.proofs.Counts.{known}
 
@@ -74,10 +75,6 @@ text_is witness shaped =
     ap (λ (xs : List ℕ). header Two witness.profile 7 cs ++ xs) (sym same)
 
 -- ---- the numbers of a machine's tables have 32 bits
-
-pub record IsSmall (t : Table) : Type 0 where
-  pub columns : length t.columns < 2 ^ 32
-  pub rows : height t.columns < 2 ^ 32
 
 small_height : (columns : List (List ℕ)) (rows : ℕ) → rows < 2 ^ 32 → All (λ c. length c ≡ rows) columns → height columns < 2 ^ 32
 small_height [] rows lt all = omega arith

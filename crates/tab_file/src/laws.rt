@@ -1,5 +1,5 @@
 //! What holds of all files and tables.
-ghost use Rattle.std.specs.Prelude.{◌≡◌, ◌<◌, ℕ, List, ◌⊎◌, MatchResult, slice_index};
+ghost use Rattle.std.specs.Prelude.{◌≡◌, ◌++◌, ◌<◌, ℕ, List, ◌⊎◌, All, MatchResult, flat_map, slice_index};
 ghost use Rattle.gold.specs.Shapes.{HaveShape};
 ghost use Rattle.zk_layout.specs.Air.{machine_shape_of};
 ghost use Rattle.gold.specs.declared.instances.Witness.{Witness};
@@ -7,7 +7,9 @@ ghost use Rattle.gold.specs.declared.shapes.Form.TheVariants.{Two};
 ghost use Rattle.gold.specs.declared.shapes.Shape.{Shape};
 ghost use Rattle.tab_file.specs.declared.fault.TabKind.{TabKind};
 ghost use Rattle.tab_file.specs.declared.fault.TabKind.TheVariants.{NoMemory};
+ghost use Rattle.tab_file.specs.Format.{text};
 ghost use Rattle.tab_file.specs.Reading.{TabReads, TabFails};
+ghost use Rattle.tab_file.specs.Pieces.{head_text, table_text, IsSmall};
 
 use crate::{TabErr, read, write};
 use gold::{Form, Witness};
@@ -28,6 +30,12 @@ pub fn reads_or_fails()
 pub fn one_text()
     ensures witness { (bytes : List ℕ) (shape : Shape) (a b : Witness) → TabReads bytes shape a → TabReads bytes shape b → a ≡ b }
     ensures bytes { (a b : List ℕ) (shape : Shape) (witness : Witness) → TabReads a shape witness → TabReads b shape witness → a ≡ b }
+{}
+
+/// The text of a machine's tables is what stands before the instances, and then each instance.
+pub fn pieces_are_the_text()
+    ensures text { (witness : Witness) → HaveShape (machine_shape_of Two) witness → text (machine_shape_of Two) witness ≡ head_text witness ++ flat_map table_text witness.tables }
+    ensures small { (witness : Witness) → HaveShape (machine_shape_of Two) witness → All IsSmall witness.tables }
 {}
 
 /// What is written of the machine's tables reads as the tables, unless memory runs out.

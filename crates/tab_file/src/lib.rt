@@ -11,7 +11,7 @@ mod writing;
 
 pub use fault::{TabErr, TabKind};
 pub use reading::read;
-pub use writing::write;
+pub use writing::{write, write_head, write_table};
 
 #[cfg(test)]
 mod tests;

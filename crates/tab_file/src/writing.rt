@@ -6,6 +6,7 @@ ghost use Rattle.zk_layout.specs.Air.{machine_shape_of};
 ghost use Rattle.tab_file.specs.Format.{number, value, profile_number, header, instance_text, text};
 ghost use Rattle.tab_file.specs.Reading.{TabReads};
 ghost use Rattle.tab_file.specs.Steps.{height};
+ghost use Rattle.tab_file.specs.Pieces.{head_text, table_text, IsSmall};
 ghost use Rattle.gold.specs.declared.shapes.Form.TheVariants.{Two};
 
 use crate::numbers::{MAGIC, SMALL, TWO, WIDE};
@@ -61,8 +62,7 @@ fn put_columns(out: &mut Vec<u8>, columns: &[Column]) -> Result<(), AllocError>
 }
 
 fn put_table(out: &mut Vec<u8>, table: &Table) -> Result<(), AllocError>
-    requires columns { length table.now.columns < 2 ^ 32 }
-    requires rows { height table.now.columns < 2 ^ 32 }
+    requires { IsSmall table.now }
     ensures { OnOk result (out.new.items ≡ out.old.items ++ instance_text (height table.now.columns) table.now) }
 {
     put_number(out, table.air)?;
@@ -71,6 +71,19 @@ fn put_table(out: &mut Vec<u8>, table: &Table) -> Result<(), AllocError>
     put_number(out, rows(table) as u32)?;
     put_columns(out, table.columns.as_slice())?;
     Ok(())
+}
+
+/// Writes one instance of a machine's tables.
+///
+/// # Errors
+///
+/// Memory ran out.
+#[tactic(auto, unfolding(crate::specs::Pieces::table_text))]
+pub fn write_table(out: &mut Vec<u8>, table: &Table) -> Result<(), AllocError>
+    requires { IsSmall table.now }
+    ensures { OnOk result (out.new.items ≡ out.old.items ++ table_text table.now) }
+{
+    put_table(out, table)
 }
 
 /// How many of the tables are of an air.
@@ -92,6 +105,19 @@ fn put_header(out: &mut Vec<u8>, witness: &Witness) -> Result<(), AllocError>
         put_number(out, count(witness.tables.as_slice(), air) as u32)?;
     }
     Ok(())
+}
+
+/// Writes what stands before the instances of a machine's tables.
+///
+/// # Errors
+///
+/// Memory ran out.
+#[tactic(auto, unfolding(crate::specs::Pieces::head_text))]
+pub fn write_head(out: &mut Vec<u8>, witness: &Witness) -> Result<(), AllocError>
+    requires { HaveShape (machine_shape_of Two) witness.now }
+    ensures { OnOk result (out.new.items ≡ out.old.items ++ head_text witness.now) }
+{
+    put_header(out, witness)
 }
 
 /// The file of a machine's tables: format 2, in their profile.

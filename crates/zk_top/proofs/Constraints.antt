@@ -23,8 +23,9 @@ use Rattle.zk_words.specs.declared.status.Which.TheVariants as files
 use Rattle.zk_words.specs.declared.status.Status.{Status}
 use Rattle.zk_words.specs.declared.status.Status.TheVariants as statuses
 use Rattle.zk_top.specs.Outcome.{Outcome, Contents, refused, shape_of, WithFile, WithText, WithTables, OfLines, OfTables, IsPilOutcome}
-use Rattle.zk_top.specs.Ends.{AreReadOut}
-use Rattle.zk_top.specs.Parts.{Asks, Stops, Comes, IsOnlyText, IsOnlyFault, IsTextRefusal, IsOnlyTables, IsOnlyFailure, IsTablesRefusal}
+use Rattle.zk_top.specs.Ends.{AreReadOut, Asks}
+use Rattle.zk_top.specs.Parts.{Stops, IsOnlyText, IsOnlyFault, IsTextRefusal}
+use Rattle.zk_top.proofs.FileTables.{tables_names}
 use Rattle.zk_top.proofs.Stages.{Begins, begins_exactly, file_begins, front_asked, refused_asks}
 
 -- a text that reads in one way, or is refused in one way
@@ -49,61 +50,19 @@ unless_memory kinds.WrongWidth P other told = told
 unless_memory kinds.CyclicPol P other told = told
 unless_memory kinds.DoubleMark P other told = told
 
--- a table file that fails does so in one way
-same_failure : (k kind : TabKind) (n at : ℕ) → Some (failure k n) ≡ Some (failure kind at) → (k ≡ kind) × (n ≡ at)
-same_failure k kind n at e = let same : failure k n ≡ failure kind at = cc in (ap (λ (f : TabErr). f.kind) same, ap (λ (f : TabErr). f.at) same)
-
-pub only_failure : (file : List ℕ) (shape : Shape) (kind : TabKind) (at : ℕ) → ((witness : Witness) → TabReads file shape witness → ⊥) → TabFails file shape kind at → IsOnlyFailure file shape kind at
-only_failure file shape kind at never fails = (never, λ k n is. same_failure k kind n at (sym is ∙ fails))
-
 abbrev shaped : List AirShape → Form → Shape
 shaped airs form = record { airs = airs; form = form }
 
 pub same_shape : (shape : Shape) (ns : List Namespace) → shape.airs ≡ map air_shape ns → shape.form ≡ Plain → shape ≡ shape_of ns
 same_shape shape ns airs form = ap (λ (a : List AirShape). shaped a shape.form) airs ∙ ap (λ (f : Form). shaped (map air_shape ns) f) form
 
--- what the tables come to under a text, where the file reads as them and as no others
-pub tables_on : (names : List Asked) (ns : List Namespace) (file : List ℕ) (witness : Witness) (o : Outcome) → IsOnlyTables file (shape_of ns) witness → OfTables names ns file o → OfLines names ns (values_of (shape_of ns) witness) o
-tables_on names ns file witness o only (inl p) = subst (λ (w : Witness). OfLines names ns (values_of (shape_of ns) w) o) (only.0 p.0 p.1) p.2
-tables_on names ns file witness o only (inr q) = absurd (only.1 q.0 q.1 q.2)
-
 -- the names of an outcome that the tables decide
 lines_names : (names : List Asked) (ns : List Namespace) (c : Columns) (o : Outcome) → OfLines names ns c o → o.names ≡ names
 lines_names names ns c o (inl p) = ap (λ (p : Outcome). p.names) p.1
 lines_names names ns c o (inr q) = ap (λ (p : Outcome). p.names) q.2
 
-pub tables_names : (names : List Asked) (ns : List Namespace) (file : List ℕ) (o : Outcome) → OfTables names ns file o → o.names ≡ names
-tables_names names ns file o (inl p) = lines_names names ns (values_of (shape_of ns) p.0) o p.2
-tables_names names ns file o (inr q) = ap (λ (p : Outcome). p.names) q.3
-
--- a table file that was refused ends the command so
-pub refused_so : (names : List Asked) (ns : List Namespace) (file : List ℕ) (kind : TabKind) (at : ℕ) (o : Outcome) → IsOnlyFailure file (shape_of ns) kind at → OfTables names ns file o → o ≡ refused names (statuses.BadTables (record { kind = kind; at = at }))
-refused_so names ns file kind at o only (inl p) = absurd (only.0 p.0 p.1)
-refused_so names ns file kind at o only (inr q) =
-    let same = only.1 q.0 q.1 q.2 in
-    subst (λ (k : TabKind). o ≡ refused names (statuses.BadTables (record { kind = k; at = at }))) same.0
-    (subst (λ (n : ℕ). o ≡ refused names (statuses.BadTables (record { kind = q.0; at = n }))) same.1 q.3)
-
-pub refusal_comes : (ns : List Namespace) (file : List ℕ) (status : Status) → IsTablesRefusal file (shape_of ns) status → Comes (λ names. OfTables names ns file) (Err status)
-refusal_comes ns file status (inl none) = subst (λ (s : Status). Comes (λ names. OfTables names ns file) (Err s)) (sym none) tt
-refusal_comes ns file status (inr told) =
-    subst (λ (s : Status). Comes (λ names. OfTables names ns file) (Err s)) (sym told.2)
-    (λ names o on. refused_so names ns file told.0 told.1 o told.3 on)
-
--- the report of the lines under tables that the file alone reads as
-pub lines_come : (ns : List Namespace) (file : List ℕ) (witness : Witness) (result : _) → IsOnlyTables file (shape_of ns) witness → Comes (λ names. OfLines names ns (values_of (shape_of ns) witness)) result → Comes (λ names. OfTables names ns file) result
-lines_come ns file witness (Ok text) only comes = λ names o on. comes names o (tables_on names ns file witness o only on)
-lines_come ns file witness (Err statuses.HostFault) only comes = comes
-lines_come ns file witness (Err statuses.NoMemory) only comes = tt
-lines_come ns file witness (Err statuses.Done) only comes = λ names o on. comes names o (tables_on names ns file witness o only on)
-lines_come ns file witness (Err (statuses.Broken b)) only comes = λ names o on. comes names o (tables_on names ns file witness o only on)
-lines_come ns file witness (Err statuses.BadWords) only comes = λ names o on. comes names o (tables_on names ns file witness o only on)
-lines_come ns file witness (Err (statuses.BadElf e)) only comes = λ names o on. comes names o (tables_on names ns file witness o only on)
-lines_come ns file witness (Err (statuses.RunFault f)) only comes = λ names o on. comes names o (tables_on names ns file witness o only on)
-lines_come ns file witness (Err (statuses.StepLimit n)) only comes = λ names o on. comes names o (tables_on names ns file witness o only on)
-lines_come ns file witness (Err (statuses.BadTables e)) only comes = λ names o on. comes names o (tables_on names ns file witness o only on)
-lines_come ns file witness (Err (statuses.BadPil e)) only comes = λ names o on. comes names o (tables_on names ns file witness o only on)
-lines_come ns file witness (Err (statuses.TooLarge w)) only comes = λ names o on. comes names o (tables_on names ns file witness o only on)
+pub text_names : (names : List Asked) (ns : List Namespace) (file : List ℕ) (o : Outcome) → OfTables names ns file o → o.names ≡ names
+text_names names ns file o h = tables_names names (shape_of ns) file (λ witness. OfLines names ns (values_of (shape_of ns) witness)) o (λ witness. lines_names names ns (values_of (shape_of ns) witness) o) h
 
 module _ (contents : Contents) (pil tables : List ℕ) where
   abbrev pub pair : List Asked
@@ -118,7 +77,7 @@ module _ (contents : Contents) (pil tables : List ℕ) where
   OnPil text o = WithText (Opened pil ∷ []) text OnText o
 
   pub text_begins : (ns : List Namespace) (o : Outcome) → OnText ns o → Begins pair o
-  text_begins ns o h = file_begins pair (contents tables) (2 ^ 48) files.Tables (OfTables pair ns) o (λ file on. begins_exactly pair o (tables_names pair ns file o on)) h
+  text_begins ns o h = file_begins pair (contents tables) (2 ^ 48) files.Tables (OfTables pair ns) o (λ file on. begins_exactly pair o (text_names pair ns file o on)) h
 
   shorter : (o : Outcome) → Begins pair o → Begins (Opened pil ∷ []) o
   shorter o b = record { rest = Opened tables ∷ b.rest; whole = b.whole }
@@ -137,7 +96,7 @@ module _ (contents : Contents) (pil tables : List ℕ) where
 
   -- the refusal that was told is the outcome's
   pub text_stops : (text : List ℕ) (status : Status) (o : Outcome) (old new : World) → Asks (Opened pil ∷ []) old new → AreReadOut old new → IsTextRefusal text status → OnPil text o → Stops o status old new
-  text_stops text status o old new asks read (inl none) h = subst (λ (s : Status). Stops o s old new) (sym none) (front_asked (Opened pil ∷ []) o old new (on_pil_begins text o h) asks)
+  text_stops text status o old new asks read (inl none) h = subst (λ (s : Status). Stops o s old new) (sym none) (inl (front_asked (Opened pil ∷ []) o old new (on_pil_begins text o h) asks))
   text_stops text status o old new asks read (inr told) h = subst (λ (s : Status). Stops o s old new) (sym told.1) (by h)
     where
       by : OnPil text o → Stops o (statuses.BadPil told.0) old new

@@ -1,6 +1,11 @@
 pub mod Stages
-pub mod Runs
+pub mod Programs
+pub mod FileTables
 pub mod Constraints
 pub mod Publics
 pub mod FileStages
 pub mod Verdicts
+pub mod Making
+pub mod Pieces
+pub mod Checks
+pub mod Sentences

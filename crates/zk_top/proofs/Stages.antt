@@ -1,19 +1,17 @@
 -- How the parts of a command join.
 use Rattle.std.proofs.Common.{◌≡◌, ◌⊎◌, inl, inr, ℕ, zero, suc, ◌<◌, ◌≤◌, ◌+◌, List, [], ◌∷◌, ◌++◌, length, take, min, Option, Some, None, Ok, Err, Result, Vec, Global, Bool, true, false, MatchBool, nat_le, refl, sym, ap, ◌∙◌, arith, subst, append_assoc, append-nil}
 use Rattle.std.proofs.Math.Seq.{take-length}
-use Rattle.host_io.specs.World.{World, Asked}
+use Rattle.host_io.specs.World.{World, Asked, after_report}
 use Rattle.host_io.specs.Calls.{HasReportedFront}
-use Rattle.rv_model.specs.Image.{Img}
-use Rattle.rv_model.specs.Run.{End, Halted, Faulted, Limited, end_within}
 use Rattle.zk_words.specs.declared.status.Which.{Which}
 use Rattle.zk_words.specs.declared.status.Status.{Status}
 use Rattle.zk_words.specs.declared.status.Status.TheVariants as statuses
 use Rattle.zk_words.specs.Lines.{line_of}
 use Rattle.zk_top.specs.declared.files.FileErr.{FileErr}
 use Rattle.zk_top.specs.declared.files.FileErr.TheVariants as errors
-use Rattle.zk_top.specs.Outcome.{Outcome, Contents, reporting, refused, unanswered, of_run, with_input, WithFile, WithImage, IsRunOutcome}
-use Rattle.zk_top.specs.Ends.{AreReadOut, AreRead, Early, Ends}
-use Rattle.zk_top.specs.Parts.{Asks, AsksAtMost, IsNotRead, IsDecided, RunLeads, Comes, Stops, Leads, IsOnlyImage, IsOnlyRefusal, IsRefusal, stop_of}
+use Rattle.zk_top.specs.Outcome.{Outcome, reporting, refused, WithFile}
+use Rattle.zk_top.specs.Ends.{AreReadOut, AreRead, Asks, AsksAtMost, with_new, HasReported, Final, Early, Ends}
+use Rattle.zk_top.specs.Parts.{IsNotRead, IsDecided, Comes, Stops, Leads, stop_of}
 
 -- nothing was asked for
 pub asks_nothing : (w : World) → Asks [] w w
@@ -41,29 +39,51 @@ read_then : (status : Option Status) (start now after : World) → after.left �
 read_then status start now after same (inl large) = inl large
 read_then status start now after same (inr out) = inr (read_both start now after out (λ slot. inl (ap (λ (left : ℕ → List ℕ). left slot) same)))
 
--- a front of the report was written behind the names
-pub early_report : (names : List Asked) (status : Status) (text : List ℕ) (start now after : World) → Asks names start now → AreRead (Some status) start now → HasReportedFront now after text → Early (reporting names status text) start after
-early_report names status text start now after asks read front = record {
-  names = length names;
-  asked = ap (λ (w : World). w.asked) front.after ∙ asks.asked ∙ ap (λ (ns : List Asked). start.asked ++ ns) (sym (take-length names));
-  bytes = front.count;
-  reported = ap (λ (w : World). w.reported) front.after ∙ ap (λ (bs : List ℕ). bs ++ take front.count text) asks.reported;
-  quiet = λ fewer. absurd (omega (arith, fewer));
-  read = inr (read_then (Some status) start now after (ap (λ (w : World). w.left) front.after) read);
-  contents = ap (λ (w : World). w.contents) front.after ∙ asks.contents;
+-- more of the report
+pub reported_more : (o : Outcome) (text : List ℕ) (start now after : World) → HasReported o [] start now → after ≡ after_report now text → HasReported o text start after
+reported_more o text start now after ready e = record {
+  asked = ap (λ (w : World). w.asked) e ∙ ready.asked;
+  read = read_then o.status start now after (ap (λ (w : World). w.left) e) ready.read;
+  contents = ap (λ (w : World). w.contents) e ∙ ready.contents;
+  reported = ap (λ (w : World). w.reported) e ∙ ap (λ (bs : List ℕ). bs ++ text) (ready.reported ∙ append-nil start.reported);
 }
 
--- a front of the names was asked for, and nothing reported
-pub early_front : (o : Outcome) (start now : World) → AsksAtMost o.names start now → Early o start now
-early_front o start now front = record {
-  names = front.some;
-  asked = front.asks.asked;
-  bytes = 0;
-  reported = front.asks.reported ∙ sym (append-nil start.reported);
-  quiet = λ fewer. refl;
-  read = inl refl;
-  contents = front.asks.contents;
-}
+-- a front of the report
+pub early_report : (o : Outcome) (text : List ℕ) (start now after : World) → o.report ≡ text → HasReported o [] start now → HasReportedFront now after text → Early o start after
+early_report o text start now after is ready front =
+    let same : take front.count text ≡ take front.count o.report = ap (take front.count) (sym is) in
+    inr (front.count, reported_more o (take front.count o.report) start now after ready (front.after ∙ ap (after_report now) same))
+
+-- a decided status with the whole report
+pub final_report : (o : Outcome) (status : Status) (text : List ℕ) (start now after : World) → IsDecided status → o.status ≡ Some status → o.report ≡ text → HasReported o [] start now → after ≡ after_report now text → Ends o status start after
+final_report o status text start now after decided ended is ready e =
+    final_ends o status start after decided (record { status = ended; whole = reported_more o o.report start now after ready (e ∙ ap (after_report now) (sym is)) })
+  where
+    final_ends : (p : Outcome) (s : Status) (old new : World) → IsDecided s → Final p s old new → Ends p s old new
+    final_ends p statuses.HostFault old new d f = absurd d
+    final_ends p statuses.NoMemory old new d f = absurd d
+    final_ends p statuses.Done old new d f = f
+    final_ends p (statuses.Broken b) old new d f = f
+    final_ends p (statuses.BadTables b) old new d f = f
+    final_ends p (statuses.BadPil b) old new d f = f
+    final_ends p statuses.BadWords old new d f = f
+    final_ends p (statuses.BadElf b) old new d f = f
+    final_ends p (statuses.RunFault b) old new d f = f
+    final_ends p (statuses.StepLimit n) old new d f = f
+    final_ends p (statuses.TooLarge w) old new d f = f
+
+-- the names of an outcome without a file were asked for and its files read: so far that is all
+pub ready : (names : List Asked) (status : Status) (text : List ℕ) (o : Outcome) (old new : World) → o ≡ reporting names status text → Asks names old new → AreRead (Some status) old new → HasReported o [] old new
+ready names status text o old new e asks read =
+    let same : o.names ≡ names = ap (λ (p : Outcome). p.names) e in
+    let ended : o.status ≡ Some status = ap (λ (p : Outcome). p.status) e in
+    let kept : with_new old.contents o.file ≡ old.contents = ap (λ (p : Outcome). with_new old.contents p.file) e in
+    record {
+      asked = asks.asked ∙ ap (λ (ns : List Asked). old.asked ++ ns) (sym same);
+      read = subst (λ (s : Option Status). AreRead s old new) (sym ended) read;
+      contents = asks.contents ∙ sym kept;
+      reported = asks.reported ∙ sym (append-nil old.reported);
+    }
 
 -- the outcome's names begin with these
 pub record Begins (names : List Asked) (o : Outcome) : Type 0 where
@@ -139,22 +159,22 @@ refused_asks names status o old new e asks read =
 pub stopped : (front : List Asked) (n : Asked) (x : Option (List ℕ)) (limit : ℕ) (which : Which) (On : List ℕ → Outcome → Type 0) (o : Outcome) (e : FileErr) (old mid new : World) → Asks front old mid → IsNotRead n x limit e mid new → Begins (front ++ n ∷ []) o → WithFile (front ++ n ∷ []) x limit which On o → Stops o (stop_of e which) old new
 stopped front n x limit which On o errors.TooLarge old mid new first large begins h =
     refused_asks (front ++ n ∷ []) (statuses.TooLarge which) o old new (file_refused (front ++ n ∷ []) x limit which On o large.bytes large.found large.exceeds h) (asks_both front (n ∷ []) old mid new first large.asks) (inl (which, refl))
-stopped front n x limit which On o errors.HostFault old mid new first more begins h = front_of_name front n o old mid new begins first more
-stopped front n x limit which On o errors.NoMemory old mid new first more begins h = front_of_name front n o old mid new begins first more
+stopped front n x limit which On o errors.HostFault old mid new first more begins h = inl (front_of_name front n o old mid new begins first more)
+stopped front n x limit which On o errors.NoMemory old mid new first more begins h = inl (front_of_name front n o old mid new begins first more)
 
 -- a command that stopped is early, or has all its names
 pub stops_early : (o : Outcome) (status : Status) (start now : World) → Stops o status start now → Early o start now
-stops_early o statuses.HostFault start now s = early_front o start now s
-stops_early o statuses.NoMemory start now s = early_front o start now s
-stops_early o statuses.Done start now s = early_front o start now (front_asked o.names o start now (begins_exactly o.names o refl) s.0)
-stops_early o (statuses.Broken b) start now s = early_front o start now (front_asked o.names o start now (begins_exactly o.names o refl) s.0)
-stops_early o (statuses.BadTables e) start now s = early_front o start now (front_asked o.names o start now (begins_exactly o.names o refl) s.0)
-stops_early o (statuses.BadPil e) start now s = early_front o start now (front_asked o.names o start now (begins_exactly o.names o refl) s.0)
-stops_early o statuses.BadWords start now s = early_front o start now (front_asked o.names o start now (begins_exactly o.names o refl) s.0)
-stops_early o (statuses.BadElf e) start now s = early_front o start now (front_asked o.names o start now (begins_exactly o.names o refl) s.0)
-stops_early o (statuses.RunFault f) start now s = early_front o start now (front_asked o.names o start now (begins_exactly o.names o refl) s.0)
-stops_early o (statuses.StepLimit n) start now s = early_front o start now (front_asked o.names o start now (begins_exactly o.names o refl) s.0)
-stops_early o (statuses.TooLarge w) start now s = early_front o start now (front_asked o.names o start now (begins_exactly o.names o refl) s.0)
+stops_early o statuses.HostFault start now s = inl s
+stops_early o statuses.NoMemory start now s = inl s
+stops_early o statuses.Done start now s = inl (inl (front_asked o.names o start now (begins_exactly o.names o refl) s.0))
+stops_early o (statuses.Broken b) start now s = inl (inl (front_asked o.names o start now (begins_exactly o.names o refl) s.0))
+stops_early o (statuses.BadTables e) start now s = inl (inl (front_asked o.names o start now (begins_exactly o.names o refl) s.0))
+stops_early o (statuses.BadPil e) start now s = inl (inl (front_asked o.names o start now (begins_exactly o.names o refl) s.0))
+stops_early o statuses.BadWords start now s = inl (inl (front_asked o.names o start now (begins_exactly o.names o refl) s.0))
+stops_early o (statuses.BadElf e) start now s = inl (inl (front_asked o.names o start now (begins_exactly o.names o refl) s.0))
+stops_early o (statuses.RunFault f) start now s = inl (inl (front_asked o.names o start now (begins_exactly o.names o refl) s.0))
+stops_early o (statuses.StepLimit n) start now s = inl (inl (front_asked o.names o start now (begins_exactly o.names o refl) s.0))
+stops_early o (statuses.TooLarge w) start now s = inl (inl (front_asked o.names o start now (begins_exactly o.names o refl) s.0))
 
 pub stops_decided : (o : Outcome) (status : Status) (start now : World) → IsDecided status → Stops o status start now → Asks o.names start now × (o ≡ refused o.names status) × AreRead (Some status) start now
 stops_decided o statuses.HostFault start now d s = absurd d
@@ -170,41 +190,19 @@ stops_decided o (statuses.StepLimit n) start now d s = s
 stops_decided o (statuses.TooLarge w) start now d s = s
 
 -- what reports a decided refusal by its line ends so
-pub refused_ends : (o : Outcome) (status result : Status) (line : List ℕ) (start now after : World) → IsDecided status → line ≡ line_of status → Stops o status start now → ((names : List Asked) → Asks names start now → AreRead (Some status) start now → Ends (reporting names status line) result start after) → Ends o result start after
+pub refused_ends : (o : Outcome) (status result : Status) (line : List ℕ) (start now after : World) → IsDecided status → line ≡ line_of status → Stops o status start now → (o.status ≡ Some status → o.report ≡ line → HasReported o [] start now → Ends o result start after) → Ends o result start after
 refused_ends o status result line start now after decided text stops ends =
     let stopped_so = stops_decided o status start now decided stops in
-    let same : reporting o.names status line ≡ o = ap (reporting o.names status) text ∙ sym stopped_so.1 in
-    subst (λ (p : Outcome). Ends p result start after) same (ends o.names stopped_so.0 stopped_so.2)
-
--- the run of an image, read against its outcome
-pub run_leads : (names : List Asked) (image : Img) (steps : ℕ) (o : Outcome) (result : Result (Vec ℕ Global) Status) (old new : World) → Asks names old new → AreReadOut old new → o ≡ of_run names steps (end_within image steps) → RunLeads image steps result → Leads o result old new
-run_leads names image steps o (Ok text) old new asks read e leads =
-    let is : o ≡ reporting names statuses.Done text.items = e ∙ leads names in
-    let same : o.names ≡ names = ap (λ (p : Outcome). p.names) is in
-    (subst (λ (ns : List Asked). Asks ns old new) (sym same) asks, is ∙ ap (λ (ns : List Asked). reporting ns statuses.Done text.items) (sym same), inr read)
-run_leads names image steps o (Err statuses.HostFault) old new asks read e leads = absurd leads
-run_leads names image steps o (Err statuses.NoMemory) old new asks read e leads = front_asked names o old new (begins_exactly names o (ap (λ (p : Outcome). p.names) e ∙ run_names names steps (end_within image steps))) asks
-  where
-    run_names : (ns : List Asked) (limit : ℕ) (end : End) → (of_run ns limit end).names ≡ ns
-    run_names ns limit (Halted n public) = refl
-    run_names ns limit (Faulted fault) = refl
-    run_names ns limit Limited = refl
-run_leads names image steps o (Err statuses.Done) old new asks read e leads = refused_asks names statuses.Done o old new (e ∙ leads names) asks (inr read)
-run_leads names image steps o (Err (statuses.Broken b)) old new asks read e leads = refused_asks names (statuses.Broken b) o old new (e ∙ leads names) asks (inr read)
-run_leads names image steps o (Err (statuses.BadTables f)) old new asks read e leads = refused_asks names (statuses.BadTables f) o old new (e ∙ leads names) asks (inr read)
-run_leads names image steps o (Err (statuses.BadPil f)) old new asks read e leads = refused_asks names (statuses.BadPil f) o old new (e ∙ leads names) asks (inr read)
-run_leads names image steps o (Err statuses.BadWords) old new asks read e leads = refused_asks names statuses.BadWords o old new (e ∙ leads names) asks (inr read)
-run_leads names image steps o (Err (statuses.BadElf f)) old new asks read e leads = refused_asks names (statuses.BadElf f) o old new (e ∙ leads names) asks (inr read)
-run_leads names image steps o (Err (statuses.RunFault f)) old new asks read e leads = refused_asks names (statuses.RunFault f) o old new (e ∙ leads names) asks (inr read)
-run_leads names image steps o (Err (statuses.StepLimit n)) old new asks read e leads = refused_asks names (statuses.StepLimit n) o old new (e ∙ leads names) asks (inr read)
-run_leads names image steps o (Err (statuses.TooLarge w)) old new asks read e leads = refused_asks names (statuses.TooLarge w) o old new (e ∙ leads names) asks (inr read)
+    let is : o ≡ refused o.names status = stopped_so.1 in
+    ends (ap (λ (p : Outcome). p.status) is) (ap (λ (p : Outcome). p.report) is ∙ sym text) (ready o.names status (line_of status) o start now is stopped_so.0 stopped_so.2)
 
 -- a stage whose outcomes have these names, read against its outcome
 pub stage_leads : (names : List Asked) (On : List Asked → Outcome → Type 0) (o : Outcome) (result : Result (Vec ℕ Global) Status) (old new : World) → Asks names old new → AreReadOut old new → o.names ≡ names → On names o → Comes On result → Leads o result old new
 stage_leads names On o (Ok text) old new asks read same on comes =
-    (subst (λ (ns : List Asked). Asks ns old new) (sym same) asks, comes names o on ∙ ap (λ (ns : List Asked). reporting ns statuses.Done text.items) (sym same), inr read)
+    let is : o ≡ reporting names statuses.Done text.items = comes names o on in
+    (ap (λ (p : Outcome). p.status) is, ap (λ (p : Outcome). p.report) is, ready names statuses.Done text.items o old new is asks (inr read))
 stage_leads names On o (Err statuses.HostFault) old new asks read same on comes = absurd comes
-stage_leads names On o (Err statuses.NoMemory) old new asks read same on comes = front_asked names o old new (begins_exactly names o same) asks
+stage_leads names On o (Err statuses.NoMemory) old new asks read same on comes = inl (front_asked names o old new (begins_exactly names o same) asks)
 stage_leads names On o (Err statuses.Done) old new asks read same on comes = refused_asks names statuses.Done o old new (comes names o on) asks (inr read)
 stage_leads names On o (Err (statuses.Broken b)) old new asks read same on comes = refused_asks names (statuses.Broken b) o old new (comes names o on) asks (inr read)
 stage_leads names On o (Err statuses.BadWords) old new asks read same on comes = refused_asks names statuses.BadWords o old new (comes names o on) asks (inr read)

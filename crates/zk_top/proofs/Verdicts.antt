@@ -17,7 +17,8 @@ use Rattle.zk_words.specs.declared.status.Which.TheVariants as files
 use Rattle.zk_words.specs.declared.status.Status.TheVariants as statuses
 use Rattle.zk_top.specs.Outcome.{Outcome, Contents, AreBytes, reporting, refused, shape_of, pil_report, OfLines, OfTables, IsPilOutcome}
 use Rattle.zk_top.proofs.FileStages.{some_with_file, one_with_file}
-use Rattle.zk_top.proofs.Constraints.{pair, OnText, OnPil, only_text, only_fault, only_failure, text_on, tables_on, refused_so}
+use Rattle.zk_top.proofs.FileTables.{some_with_tables, one_with_tables}
+use Rattle.zk_top.proofs.Constraints.{pair, OnText, OnPil, only_text, text_on}
 
 -- some outcome, where each line holds or one is the first broken one, and each file reads or fails
 module _ (verdict : (ns : List Namespace) (c : Columns) → AllHold ns c ⊎ ((b : Broken) × IsFirstBroken ns c b)) (reads_or_fails : (bytes : List ℕ) (shape : Shape) → ((i : ℕ) → slice_index bytes i < 256) → ((witness : Witness) × TabReads bytes shape witness) ⊎ ((kind : TabKind) × (at : ℕ) × TabFails bytes shape kind at)) (decided : (text : List ℕ) → IsDecided text) where
@@ -25,17 +26,10 @@ module _ (verdict : (ns : List Namespace) (c : Columns) → AllHold ns c ⊎ ((b
   some_lines names ns c (inl all) = (reporting names statuses.Done (pil_report ns c), inl (all, refl))
   some_lines names ns c (inr first) = (refused names (statuses.Broken first.0), inr (first.0, first.1, refl))
 
-  some_tables : (names : List Asked) (ns : List Namespace) (file : List ℕ) → ((witness : Witness) × TabReads file (shape_of ns) witness) ⊎ ((kind : TabKind) × (at : ℕ) × TabFails file (shape_of ns) kind at) → (o : Outcome) × OfTables names ns file o
-  some_tables names ns file (inl reads) =
-      let values = values_of (shape_of ns) reads.0 in
-      let rest = some_lines names ns values (verdict ns values) in
-      (rest.0, inl (reads.0, reads.1, rest.1))
-  some_tables names ns file (inr fails) = (refused names (statuses.BadTables (record { kind = fails.0; at = fails.1 })), inr (fails.0, fails.1, fails.2, refl))
-
   some_text : (contents : Contents) (pil tables : List ℕ) → AreBytes contents → (text : List ℕ) → ((ns : List Namespace) × Reads text ns) ⊎ ((e : PilErr) × Fails text e) → (o : Outcome) × OnPil contents pil tables text o
   some_text contents pil tables bytes text (inl reads) =
       let both = pair contents pil tables in
-      let rest = some_with_file both (contents tables) (2 ^ 48) files.Tables (OfTables both reads.0) (λ file told. some_tables both reads.0 file (reads_or_fails file (shape_of reads.0) (bytes tables file told))) in
+      let rest = some_with_file both (contents tables) (2 ^ 48) files.Tables (OfTables both reads.0) (λ file told. some_with_tables both (shape_of reads.0) file (λ witness. OfLines both reads.0 (values_of (shape_of reads.0) witness)) (λ witness. some_lines both reads.0 (values_of (shape_of reads.0) witness) (verdict reads.0 (values_of (shape_of reads.0) witness))) (reads_or_fails file (shape_of reads.0) (bytes tables file told))) in
       (rest.0, inl (reads.0, reads.1, rest.1))
   some_text contents pil tables bytes text (inr fails) = (refused (Opened pil ∷ []) (statuses.BadPil fails.0), inr (fails.0, fails.1, refl))
 
@@ -52,11 +46,7 @@ module _ (one_broken : (ns : List Namespace) (c : Columns) (a b : Broken) → Is
   one_lines names ns c o p (inr h) (inr k) = h.2 ∙ ap (λ (b : Broken). refused names (statuses.Broken b)) (one_broken ns c h.0 k.0 h.1 k.1) ∙ sym k.2
 
   one_tables : (names : List Asked) (ns : List Namespace) (file : List ℕ) (o p : Outcome) → OfTables names ns file o → OfTables names ns file p → o ≡ p
-  one_tables names ns file o p (inl h) k =
-      one_lines names ns (values_of (shape_of ns) h.0) o p h.2
-      (tables_on names ns file h.0 p (λ other reads. one_reading file (shape_of ns) other h.0 reads h.1, λ kind at fails. not_both file (shape_of ns) h.0 kind at h.1 fails) k)
-  one_tables names ns file o p (inr h) k =
-      h.3 ∙ sym (refused_so names ns file h.0 h.1 p (only_failure file (shape_of ns) h.0 h.1 (λ witness reads. not_both file (shape_of ns) witness h.0 h.1 reads h.2) h.2) k)
+  one_tables names ns file = one_with_tables names (shape_of ns) file (λ witness. OfLines names ns (values_of (shape_of ns) witness)) (one_reading file (shape_of ns)) (not_both file (shape_of ns)) (λ witness. one_lines names ns (values_of (shape_of ns) witness))
 
   one_text : (contents : Contents) (pil tables text : List ℕ) (o p : Outcome) → OnPil contents pil tables text o → OnPil contents pil tables text p → o ≡ p
   one_text contents pil tables text o p (inl h) k =

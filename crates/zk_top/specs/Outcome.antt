@@ -1,7 +1,7 @@
 -- What a command comes to, by its words and the contents of its files (docs/COMMANDS.md).
 use Rattle.std.specs.Prelude.{◌≡◌, ◌⊎◌, ℕ, ◌<◌, ◌-◌, ◌^◌, nat_le, MatchBool, List, [], ◌∷◌, ◌++◌, length, slice_index, map, flat_map, codes, decimal, Option, Some, None}
 use Rattle.hex.specs.Hex.{encode_lower}
-use Rattle.host_io.specs.World.{Asked, Opened}
+use Rattle.host_io.specs.World.{Asked, Opened, Created}
 use Rattle.rv_model.specs.Image.{Img}
 use Rattle.rv_model.specs.Run.{End, Halted, Faulted, Limited, end_within}
 use Rattle.rv_model.specs.declared.answer.Public.{Public}
@@ -9,8 +9,11 @@ use Rattle.elf_load.specs.Loads.{Loads}
 use Rattle.elf_load.specs.Refusal.{Refused}
 use Rattle.elf_load.specs.declared.error.ElfErr.{ElfErr}
 use Rattle.gold.specs.declared.instances.Witness.{Witness}
-use Rattle.gold.specs.declared.shapes.Form.TheVariants.{Plain}
+use Rattle.gold.specs.declared.shapes.Form.TheVariants.{Plain, Two}
+use Rattle.gold.specs.declared.shapes.Profile.{Profile}
 use Rattle.gold.specs.declared.shapes.Shape.{Shape}
+use Rattle.zk_layout.specs.Air.{machine_shape_of}
+use Rattle.tab_file.specs.Format.{text as file_text}
 use Rattle.tab_file.specs.declared.fault.TabKind.{TabKind}
 use Rattle.tab_file.specs.Reading.{TabReads, TabFails}
 use Rattle.pil_ast.specs.Term.{Line, published, Namespace}
@@ -23,10 +26,15 @@ use Rattle.pil_text.specs.declared.error.PilErr.{PilErr}
 use Rattle.wit_columns.specs.Values.{values_of}
 use Rattle.row_check.specs.declared.broken.Broken.{Broken}
 use Rattle.row_check.specs.Breaks.{IsFirstBroken}
+use Rattle.pil_print.specs.Printed.{printed}
+use Rattle.machine_text.specs.Machine.{machine}
+use Rattle.machine_columns.specs.Values.{values_of as machine_values}
+use Rattle.machine_columns.specs.Accepted.{AreAccepted, public_of}
+use Rattle.run_tables.specs.Sequential.{sequential_witness}
 use Rattle.zk_words.specs.Words.{Reads}
 use Rattle.zk_words.specs.Lines.{line_of}
 use Rattle.zk_words.specs.declared.command.Command.{Command}
-use Rattle.zk_words.specs.declared.command.Command.TheVariants.{Run, Pil}
+use Rattle.zk_words.specs.declared.command.Command.TheVariants.{Run, Witness as MakeWitness, Check, Pil, Machine}
 use Rattle.zk_words.specs.declared.status.Which.{Which}
 use Rattle.zk_words.specs.declared.status.Which.TheVariants as files
 use Rattle.zk_words.specs.declared.status.Status.{Status}
@@ -40,18 +48,26 @@ Contents = List ℕ → Option (List ℕ)
 abbrev pub AreBytes : Contents → Type 0
 AreBytes contents = (name : List ℕ) (file : List ℕ) → contents name ≡ Some file → (i : ℕ) → slice_index file i < 256
 
+-- a file that a command creates
+pub record NewFile : Type 0 where
+  pub name : List ℕ
+  pub bytes : List ℕ
+
 pub record Outcome : Type 0 where
   -- the names that the command asks for, in order
   pub names : List Asked
   -- none where the last of the names has no file: then the host can only fail
   pub status : Option Status
+  -- the file that the command creates, if it creates one: its name is the last of the names then
+  pub file : Option NewFile
   pub report : List ℕ
 
 abbrev pub unanswered : List Asked → Outcome
-unanswered names = record { names = names; status = None; report = [] }
+unanswered names = record { names = names; status = None; file = None; report = [] }
 
+-- a report, and no file is created
 abbrev pub reporting : List Asked → Status → List ℕ → Outcome
-reporting names status report = record { names = names; status = Some status; report = report }
+reporting names status report = record { names = names; status = Some status; file = None; report = report }
 
 -- a refusal is reported by its line
 abbrev pub refused : List Asked → Status → Outcome
@@ -69,9 +85,25 @@ WithImage names file On o = ((image : Img) × Loads file [] image × On image o)
 abbrev pub with_input : Img → List ℕ → Img
 with_input image input = record image { input = input }
 
+abbrev pub program_names : List ℕ → List ℕ → List Asked
+program_names elf input = Opened elf ∷ Opened input ∷ []
+
+-- the ELF file is loaded with the input, and what that comes to; or one of the two isn't had
+abbrev pub WithProgram : Contents → List ℕ → List ℕ → (Img → Outcome → Type 0) → Outcome → Type 0
+WithProgram contents elf input On o =
+    WithFile (Opened elf ∷ []) (contents elf) (2 ^ 26) files.Elf
+    (λ file. WithImage (Opened elf ∷ []) file
+    (λ image. WithFile (program_names elf input) (contents input) (2 ^ 24 - 8) files.Input
+    (λ bytes. On (with_input image bytes))))
+    o
+
+-- what is published, in the lines of a report
+abbrev pub public_text : Public → List ℕ
+public_text public = codes "exit " ++ decimal public.exit ++ codes "\noutput " ++ encode_lower public.output ++ codes "\n"
+
 -- the report of a run that halts
 abbrev pub run_report : ℕ → Public → List ℕ
-run_report n public = codes "steps " ++ decimal n ++ codes "\nexit " ++ decimal public.exit ++ codes "\noutput " ++ encode_lower public.output ++ codes "\n"
+run_report n public = codes "steps " ++ decimal n ++ codes "\n" ++ public_text public
 
 abbrev pub of_run : List Asked → ℕ → End → Outcome
 of_run names limit (Halted n public) = reporting names statuses.Done (run_report n public)
@@ -80,12 +112,27 @@ of_run names limit Limited = refused names (statuses.StepLimit limit)
 
 -- `run ELF INPUT STEPS`
 unfoldable pub IsRunOutcome : Contents → List ℕ → List ℕ → ℕ → Outcome → Type 0
-IsRunOutcome contents elf input steps o =
-    WithFile (Opened elf ∷ []) (contents elf) (2 ^ 26) files.Elf
-    (λ file. WithImage (Opened elf ∷ []) file
-    (λ image. WithFile (Opened elf ∷ Opened input ∷ []) (contents input) (2 ^ 24 - 8) files.Input
-    (λ bytes o. o ≡ of_run (Opened elf ∷ Opened input ∷ []) steps (end_within (with_input image bytes) steps))))
-    o
+IsRunOutcome contents elf input steps o = WithProgram contents elf input (λ image o. o ≡ of_run (program_names elf input) steps (end_within image steps)) o
+
+-- the tables are written, and the report of the run follows
+abbrev pub of_made : List Asked → List ℕ → Witness → ℕ → Public → Outcome
+of_made names tables witness n public = record {
+  names = names ++ Created tables ∷ [];
+  status = Some statuses.Done;
+  file = Some (record { name = tables; bytes = file_text (machine_shape_of Two) witness });
+  report = run_report n public;
+}
+
+-- the tables of a run that halts are the sequential ones; of any other run no file is created
+abbrev pub of_making : List Asked → List ℕ → Img → ℕ → End → Outcome
+of_making names tables image limit (Halted n public) = of_made names tables (sequential_witness image n public) n public
+of_making names tables image limit (Faulted fault) = refused names (statuses.RunFault fault)
+of_making names tables image limit Limited = refused names (statuses.StepLimit limit)
+
+-- `witness ELF INPUT TABLES STEPS WORKERS`
+unfoldable pub IsWitnessOutcome : Contents → List ℕ → List ℕ → List ℕ → ℕ → Outcome → Type 0
+IsWitnessOutcome contents elf input tables steps o =
+    WithProgram contents elf input (λ image o. o ≡ of_making (program_names elf input) tables image steps (end_within image steps)) o
 
 -- the text reads as namespaces, and what they come to; or it is refused
 abbrev pub WithText : List Asked → List ℕ → (List Namespace → Outcome → Type 0) → Outcome → Type 0
@@ -125,10 +172,44 @@ IsPilOutcome contents pil tables o =
     (OfTables (Opened pil ∷ Opened tables ∷ []) ns)))
     o
 
+-- the report of tables that are accepted
+abbrev pub check_report : Public → List ℕ
+check_report public = codes "accepted\n" ++ public_text public
+
+-- the tables are accepted for the image, or one line of the machine's text is the first broken one
+abbrev pub OfVerdict : List Asked → Img → Witness → Outcome → Type 0
+OfVerdict names image witness o =
+    (AreAccepted image witness × (o ≡ reporting names statuses.Done (check_report (public_of image witness))))
+    ⊎ ((b : Broken) × IsFirstBroken (machine witness.profile) (machine_values image witness) b × (o ≡ refused names (statuses.Broken b)))
+
+-- what the bytes of the table file come to for the image
+abbrev pub OfMachineTables : List Asked → Img → List ℕ → Outcome → Type 0
+OfMachineTables names image file o = WithTables names (machine_shape_of Two) file (OfVerdict names image) o
+
+abbrev pub check_names : List ℕ → List ℕ → List ℕ → List Asked
+check_names elf input tables = Opened elf ∷ Opened input ∷ Opened tables ∷ []
+
+-- `check ELF INPUT TABLES`
+unfoldable pub IsCheckOutcome : Contents → List ℕ → List ℕ → List ℕ → Outcome → Type 0
+IsCheckOutcome contents elf input tables o =
+    WithProgram contents elf input
+    (λ image. WithFile (check_names elf input tables) (contents tables) (2 ^ 48) files.Tables
+    (OfMachineTables (check_names elf input tables) image))
+    o
+
+-- `machine`, `machine wide`
+abbrev pub IsMachineOutcome : List Asked → Profile → Outcome → Type 0
+IsMachineOutcome names profile o = o ≡ reporting names statuses.Done (printed (machine profile))
+
 -- what a command comes to, whose file names are the words at their places
 abbrev pub IsOutcomeOf : Contents → List (List ℕ) → Command → Outcome → Type 0
 IsOutcomeOf contents words (Run steps) o = (elf : List ℕ) × (input : List ℕ) × (text : List ℕ) × (words ≡ codes "run" ∷ elf ∷ input ∷ text ∷ []) × IsRunOutcome contents elf input steps o
+IsOutcomeOf contents words (MakeWitness steps workers) o =
+    (elf : List ℕ) × (input : List ℕ) × (tables : List ℕ) × (text : List ℕ) × (number : List ℕ)
+    × (words ≡ codes "witness" ∷ elf ∷ input ∷ tables ∷ text ∷ number ∷ []) × IsWitnessOutcome contents elf input tables steps o
+IsOutcomeOf contents words Check o = (elf : List ℕ) × (input : List ℕ) × (tables : List ℕ) × (words ≡ codes "check" ∷ elf ∷ input ∷ tables ∷ []) × IsCheckOutcome contents elf input tables o
 IsOutcomeOf contents words Pil o = (pil : List ℕ) × (tables : List ℕ) × (words ≡ codes "pil" ∷ pil ∷ tables ∷ []) × IsPilOutcome contents pil tables o
+IsOutcomeOf contents words (Machine profile) o = IsMachineOutcome [] profile o
 
 -- what the words come to: they read as a command, or as none
 abbrev pub IsOutcome : Contents → List (List ℕ) → Outcome → Type 0

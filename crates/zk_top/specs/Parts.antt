@@ -1,7 +1,7 @@
 -- Parts of a command.
-use Rattle.std.specs.Prelude.{◌≡◌, ◌⊎◌, ℕ, ◌<◌, ◌≤◌, List, [], ◌∷◌, ◌++◌, length, take, Option, Some, Vec, Result, Ok, Err}
+use Rattle.std.specs.Prelude.{◌≡◌, ◌⊎◌, ℕ, ◌<◌, ◌≤◌, ◌-◌, ◌^◌, List, [], ◌∷◌, ◌++◌, length, take, Option, Some, Vec, Result, Ok, Err}
 use Rattle.std.specs.declared.alloc.Global.{Global}
-use Rattle.host_io.specs.World.{World, Asked}
+use Rattle.host_io.specs.World.{World, Asked, Opened, Created}
 use Rattle.rv_model.specs.Image.{Img}
 use Rattle.rv_model.specs.Run.{end_within}
 use Rattle.elf_load.specs.Loads.{Loads}
@@ -20,19 +20,10 @@ use Rattle.zk_words.specs.declared.status.Status.{Status}
 use Rattle.zk_words.specs.declared.status.Status.TheVariants as statuses
 use Rattle.zk_top.specs.declared.files.FileErr.{FileErr}
 use Rattle.zk_top.specs.declared.files.FileErr.TheVariants as errors
-use Rattle.zk_top.specs.Outcome.{Outcome, reporting, refused, of_run}
-use Rattle.zk_top.specs.Ends.{AreReadOut, AreRead}
-
--- these names were asked for, and nothing else happened that an outcome speaks of
-pub record Asks (names : List Asked) (old new : World) : Type 0 where
-  pub asked : new.asked ≡ old.asked ++ names
-  pub reported : new.reported ≡ old.reported
-  pub contents : new.contents ≡ old.contents
-
--- a front of these names was
-pub record AsksAtMost (names : List Asked) (old new : World) : Type 0 where
-  pub some : ℕ
-  pub asks : Asks (take some names) old new
+use Rattle.run_tables.specs.declared.made.Made.{Made}
+use Rattle.zk_words.specs.declared.status.Which.TheVariants as files
+use Rattle.zk_top.specs.Outcome.{Outcome, reporting, refused, with_input, of_made, of_making}
+use Rattle.zk_top.specs.Ends.{AreReadOut, AreRead, Asks, AsksAtMost, with_bytes, HasReported, IsUnreported}
 
 -- the file of this name was asked for, has at most so many bytes, and was read whole
 pub record IsRead (name : Asked) (behind : Option (List ℕ)) (limit : ℕ) (bytes : List ℕ) (old new : World) : Type 0 where
@@ -82,12 +73,72 @@ IsOnlyRefusal file e = ((image : Img) → Loads file [] image → ⊥) × ((othe
 abbrev pub IsRefusal : List ℕ → Status → Type 0
 IsRefusal file status = (status ≡ statuses.NoMemory) ⊎ ((e : ElfErr) × (status ≡ statuses.BadElf e) × IsOnlyRefusal file e)
 
--- the run's report, or how it ends without
-abbrev pub RunLeads : Img → ℕ → Result (Vec ℕ Global) Status → Type 0
-RunLeads image steps (Ok text) = (names : List Asked) → of_run names steps (end_within image steps) ≡ reporting names statuses.Done text.items
-RunLeads image steps (Err statuses.NoMemory) = Unit {0}
-RunLeads image steps (Err statuses.HostFault) = ⊥
-RunLeads image steps (Err status) = (names : List Asked) → of_run names steps (end_within image steps) ≡ refused names status
+-- the ELF file and the input were read, and the file is loaded as this image and no other
+pub record HasProgram (elf input : List ℕ) (image : Img) (old new : World) : Type 0 where
+  pub mid : World
+  pub file : List ℕ
+  pub has : IsRead (Opened elf) (old.contents elf) (2 ^ 26) file old mid
+  pub bare : Img
+  pub only : IsOnlyImage file bare
+  pub bytes : List ℕ
+  pub read : IsRead (Opened input) (old.contents input) (2 ^ 24 - 8) bytes mid new
+  pub is : image ≡ with_input bare bytes
+
+-- the ELF file wasn't read
+pub record HasNoFile (elf : List ℕ) (status : Status) (old new : World) : Type 0 where
+  pub e : FileErr
+  pub is : status ≡ stop_of e files.Elf
+  pub unread : IsNotRead (Opened elf) (old.contents elf) (2 ^ 26) e old new
+
+-- it was read, and refused
+pub record HasRefused (elf : List ℕ) (status : Status) (old new : World) : Type 0 where
+  pub file : List ℕ
+  pub has : IsRead (Opened elf) (old.contents elf) (2 ^ 26) file old new
+  pub refusal : IsRefusal file status
+
+-- it was read and loaded, and the input wasn't read
+pub record HasNoInput (elf input : List ℕ) (status : Status) (old new : World) : Type 0 where
+  pub mid : World
+  pub file : List ℕ
+  pub has : IsRead (Opened elf) (old.contents elf) (2 ^ 26) file old mid
+  pub bare : Img
+  pub only : IsOnlyImage file bare
+  pub e : FileErr
+  pub is : status ≡ stop_of e files.Input
+  pub unread : IsNotRead (Opened input) (old.contents input) (2 ^ 24 - 8) e mid new
+
+-- how a command stops where the program isn't had
+abbrev pub HasNoProgram : List ℕ → List ℕ → Status → World → World → Type 0
+HasNoProgram elf input status old new = HasNoFile elf status old new ⊎ (HasRefused elf status old new ⊎ HasNoInput elf input status old new)
+
+-- a command stopped before its report: what it asked for, read and created, against its outcome
+abbrev pub Stops : Outcome → Status → World → World → Type 0
+Stops o statuses.HostFault old new = IsUnreported o old new
+Stops o statuses.NoMemory old new = IsUnreported o old new
+Stops o status old new = Asks o.names old new × (o ≡ refused o.names status) × AreRead (Some status) old new
+
+-- the tables of a run that halts were made, or how its outcome ends without
+abbrev pub IsMaking : Img → ℕ → Result Made Status → Type 0
+IsMaking image steps (Ok made) = (names : List Asked) (tables : List ℕ) → of_making names tables image steps (end_within image steps) ≡ of_made names tables made.witness made.steps made.public
+IsMaking image steps (Err statuses.NoMemory) = Unit {0}
+IsMaking image steps (Err statuses.HostFault) = ⊥
+IsMaking image steps (Err status) = (names : List Asked) (tables : List ℕ) → of_making names tables image steps (end_within image steps) ≡ refused names status
+
+-- the work before the tables are written led to them, or stopped
+abbrev pub LeadsToTables : List Asked → List ℕ → Outcome → Result Made Status → World → World → Type 0
+LeadsToTables names tables o (Ok made) old new = Asks names old new × AreReadOut old new × (o ≡ of_made names tables made.witness made.steps made.public)
+LeadsToTables names tables o (Err status) old new = Stops o status old new
+
+-- the file of this name was created, and these bytes are behind it
+pub record HasBehind (name bytes : List ℕ) (old new : World) : Type 0 where
+  pub asked : new.asked ≡ old.asked ++ Created name ∷ []
+  pub contents : new.contents ≡ with_bytes old.contents name bytes
+  pub reported : new.reported ≡ old.reported
+  pub left : new.left ≡ old.left
+
+-- the file wasn't created, or a front of it is behind its name
+abbrev pub IsCut : List ℕ → List ℕ → World → World → Type 0
+IsCut name bytes old new = AsksAtMost (Created name ∷ []) old new ⊎ ((front : ℕ) × HasBehind name (take front bytes) old new)
 
 -- the text reads as these namespaces and in no other way
 abbrev pub IsOnlyText : List ℕ → List Namespace → Type 0
@@ -113,6 +164,10 @@ IsOnlyFailure file shape kind at = ((witness : Witness) → TabReads file shape 
 abbrev pub IsTablesRefusal : List ℕ → Shape → Status → Type 0
 IsTablesRefusal file shape status = (status ≡ statuses.NoMemory) ⊎ ((kind : TabKind) × (at : ℕ) × (status ≡ statuses.BadTables (record { kind = kind; at = at })) × IsOnlyFailure file shape kind at)
 
+-- a status that may come at any time
+abbrev pub IsEarly : Status → Type 0
+IsEarly status = (status ≡ statuses.HostFault) ⊎ (status ≡ statuses.NoMemory)
+
 -- what a public names is in range
 abbrev pub IsPublicIn : Columns → Line → Type 0
 IsPublicIn c (published name s k r) = (s < c.spaces) × (k < c.width s) × (r < c.rows s)
@@ -125,13 +180,7 @@ Comes On (Err statuses.NoMemory) = Unit {0}
 Comes On (Err statuses.HostFault) = ⊥
 Comes On (Err status) = (names : List Asked) (o : Outcome) → On names o → o ≡ refused names status
 
--- a command stopped before its report: what it asked for and read, against its outcome
-abbrev pub Stops : Outcome → Status → World → World → Type 0
-Stops o statuses.HostFault old new = AsksAtMost o.names old new
-Stops o statuses.NoMemory old new = AsksAtMost o.names old new
-Stops o status old new = Asks o.names old new × (o ≡ refused o.names status) × AreRead (Some status) old new
-
 -- the work before the report led to its text, or stopped
 abbrev pub Leads : Outcome → Result (Vec ℕ Global) Status → World → World → Type 0
-Leads o (Ok text) old new = Asks o.names old new × (o ≡ reporting o.names statuses.Done text.items) × AreRead (Some statuses.Done) old new
+Leads o (Ok text) old new = (o.status ≡ Some statuses.Done) × (o.report ≡ text.items) × HasReported o [] old new
 Leads o (Err status) old new = Stops o status old new

@@ -1,32 +1,27 @@
 //! The command `pil`.
 ghost use Rattle.std.specs.Prelude.{◌≡◌, ◌≢◌, ◌≤◌, length, IfOk, IfErr, IsErrOf};
-ghost use Rattle.gold.specs.Shapes.{HaveShape};
 ghost use Rattle.pil_ast.specs.Tree.{namespaces};
 ghost use Rattle.pil_ast.specs.Columns.{Fits};
 ghost use Rattle.pil_ast.specs.Sound.{IsSound};
 ghost use Rattle.host_io.specs.Calls.{HasRisen};
 ghost use Rattle.zk_top.specs.Outcome.{Outcome, OfLines, OfTables, IsPilOutcome};
 ghost use Rattle.zk_top.specs.Ends.{Ends};
-ghost use Rattle.zk_top.specs.Parts.{Comes, Leads, IsOnlyText, IsTextRefusal, IsOnlyTables, IsTablesRefusal};
+ghost use Rattle.zk_top.specs.Parts.{Comes, Leads, IsOnlyText, IsTextRefusal};
 
 use crate::ending::{finish, refuse};
 use crate::files::{file_of, stopped};
 use crate::report::pil_text;
+use crate::tables::{TABLES_LIMIT, tables_of};
 use bus_check::{first_broken, one_verdict};
-use gold::{Shape, Witness};
 use host_io::Host;
 use pil_ast::{Columns, Pil};
 use pil_text::{PilErrKind, one_answer};
 use std::alloc::Global;
-use tab_file::TabKind;
-use tab_file::laws::{one_text, reads_or_fails};
 use wit_columns::TableColumns;
 use zk_words::{Status, Which};
 
 /// A constraint text has at most so many bytes.
 const TEXT_LIMIT: u64 = 1 << 20;
-/// A table file has at most so many bytes.
-const TABLES_LIMIT: u64 = 1 << 48;
 
 // The constraints of a text.
 fn constraints_of(alloc: Global, text: &[u8]) -> Result<Pil, Status>
@@ -41,23 +36,6 @@ fn constraints_of(alloc: Global, text: &[u8]) -> Result<Pil, Status>
         Err(e) => match e.kind {
             PilErrKind::NoMemory => Err(Status::NoMemory),
             _ => Err(Status::BadPil(e)),
-        },
-    }
-}
-
-// The tables of a file, which have the shape.
-fn tables_of(alloc: Global, file: Vec<u8>, shape: &Shape) -> Result<Witness, Status>
-    ensures only { IfOk result (λ witness. IsOnlyTables file.items shape.now witness) }
-    ensures shaped { IfOk result (λ witness. HaveShape shape.now witness) }
-    ensures refused { IfErr result (IsTablesRefusal file.items shape.now) }
-{
-    reads_or_fails();
-    one_text();
-    match tab_file::read(alloc, &file, shape) {
-        Ok(witness) => Ok(witness),
-        Err(e) => match e.kind {
-            TabKind::NoMemory => Err(Status::NoMemory),
-            _ => Err(Status::BadTables(e)),
         },
     }
 }

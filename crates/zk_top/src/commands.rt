@@ -5,10 +5,15 @@ ghost use Rattle.zk_words.specs.Words.{Reads, texts};
 ghost use Rattle.zk_words.specs.declared.command.Command.{Command as Asked};
 ghost use Rattle.zk_top.specs.Outcome.{Outcome, IsOutcome};
 ghost use Rattle.zk_top.specs.Ends.{Ends};
+ghost use Rattle.zk_top.specs.Headline.{Headline};
 
 use crate::checking::pil_call;
 use crate::ending::refuse;
+use crate::judging::check_call;
+use crate::laws::headline;
+use crate::printing::print_call;
 use crate::running::run_call;
+use crate::witnessing::witness_one;
 use host_io::Host;
 use std::alloc::Global;
 use zk_words::{Command, Status, read_words};
@@ -17,24 +22,49 @@ use zk_words::{Command, Status, read_words};
 /// ended. Nothing that the host is asked for, given or told goes beyond the words' outcome.
 pub fn top<H: Host>(alloc: Global, words: &[String], host: &mut H) -> Status
     ensures told { H.tells host.old → H.tells host.new }
-    // What is answered, asked for and reported is what the words and the contents of the files come to.
+    // What is answered, asked for, written and reported is what the words and the contents of the files come to.
     ensures ends { H.tells host.old → (o : Outcome) → IsOutcome (H.world host.old).contents (texts words.now) o → Ends o result (H.world host.old) (H.world host.new) }
     ensures later { H.faults host.old ≤ H.faults host.new }
     // It fails only where the host has failed.
     ensures fault { result ≡ Status.HostFault → HasRisen (H.faults host.old) (H.faults host.new) }
     // Whatever the host tells, words that read as no command are told apart from those that do.
     ensures bad_words { result ≡ Status.BadWords → (command : Asked) → Reads (texts words.now) command → ⊥ }
+    // What `witness` and `check` come to is the headline's.
+    ensures headline { Headline }
     ensures no_command { ((command : Asked) → Reads (texts words.now) command → ⊥) → (result ≡ Status.BadWords) ⊎ ((result ≡ Status.HostFault) ⊎ (result ≡ Status.NoMemory)) }
 {
+    headline();
     match read_words(words) {
         Some(Command::Run { steps }) => match words {
             [_, elf, input, _] => run_call(alloc, host, elf.as_str(), input.as_str(), steps),
+            _ => unreachable!(),
+        },
+        Some(Command::Witness { steps, .. }) => match words {
+            [_, elf, input, tables, _, _] => witness_one(
+                alloc,
+                host,
+                elf.as_str(),
+                input.as_str(),
+                tables.as_str(),
+                steps,
+            ),
+            _ => unreachable!(),
+        },
+        Some(Command::Check) => match words {
+            [_, elf, input, tables] => check_call(
+                alloc,
+                host,
+                elf.as_str(),
+                input.as_str(),
+                tables.as_str(),
+            ),
             _ => unreachable!(),
         },
         Some(Command::Pil) => match words {
             [_, pil, tables] => pil_call(alloc, host, pil.as_str(), tables.as_str()),
             _ => unreachable!(),
         },
+        Some(Command::Machine { profile }) => print_call(alloc, host, profile),
         None => refuse(alloc, host, Status::BadWords),
     }
 }

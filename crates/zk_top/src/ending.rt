@@ -1,10 +1,10 @@
 //! The last part of a command: its report.
-ghost use Rattle.std.specs.Prelude.{◌≡◌, ◌≤◌, ◌⊎◌, List, Some};
-ghost use Rattle.host_io.specs.World.{World, Asked};
+ghost use Rattle.std.specs.Prelude.{◌≡◌, ◌≤◌, ◌⊎◌, [], Some};
+ghost use Rattle.host_io.specs.World.{World};
 ghost use Rattle.host_io.specs.Calls.{HasRisen};
-ghost use Rattle.zk_top.specs.Outcome.{Outcome, reporting};
-ghost use Rattle.zk_top.specs.Ends.{AreRead, Ends};
-ghost use Rattle.zk_top.specs.Parts.{Asks, IsDecided, IsOrEarly, Stops};
+ghost use Rattle.zk_top.specs.Outcome.{Outcome};
+ghost use Rattle.zk_top.specs.Ends.{HasReported, Ends};
+ghost use Rattle.zk_top.specs.Parts.{IsDecided, IsOrEarly, Stops};
 
 use host_io::{Host, WriteErr, report_all};
 use std::alloc::Global;
@@ -14,7 +14,7 @@ use zk_words::{Status, status_line};
 pub fn finish<H: Host>(host: &mut H, status: Status, text: &[u8]) -> Status
     requires { IsDecided status }
     ensures told { H.tells host.old → H.tells host.new }
-    ensures ends { H.tells host.old → (start : World) (names : List Asked) → Asks names start (H.world host.old) → AreRead (Some status) start (H.world host.old) → Ends (reporting names status text.now) result start (H.world host.new) }
+    ensures ends { H.tells host.old → (start : World) (o : Outcome) → o.status ≡ Some status → o.report ≡ text.now → HasReported o [] start (H.world host.old) → Ends o result start (H.world host.new) }
     ensures status { IsOrEarly status result }
     ensures later { H.faults host.old ≤ H.faults host.new }
     ensures fault { result ≡ Status.HostFault → HasRisen (H.faults host.old) (H.faults host.new) }

@@ -1,10 +1,14 @@
 //! What holds of every outcome.
 ghost use Rattle.std.specs.Prelude.{◌≡◌, ℕ, List};
-ghost use Rattle.zk_top.specs.Outcome.{Outcome, Contents, AreBytes, IsRunOutcome, IsPilOutcome, IsOutcome};
+ghost use Rattle.zk_top.specs.Headline.{Headline};
+ghost use Rattle.zk_top.specs.Outcome.{Outcome, Contents, AreBytes, IsRunOutcome, IsWitnessOutcome, IsCheckOutcome, IsPilOutcome, IsOutcome};
 
 use bus_check::one_verdict;
-use elf_load::one_answer;
+use elf_load::{input_apart, loaded_is_loadable, one_answer};
+use run_accepted::completeness;
+use rv_model::run_law;
 use tab_file::laws::{one_text, reads_or_fails};
+use verdict::soundness_laws;
 use zk_words::one_command;
 
 /// Whatever the words are and whatever bytes the files hold, they come to one outcome and no other.
@@ -14,7 +18,25 @@ pub fn one_outcome()
 {
     one_command();
     one_run();
+    one_witness();
+    one_check();
     one_pil();
+}
+
+/// The headline, of what commands come to (specs/Headline.antt). The call computes nothing.
+pub fn headline()
+    ensures { Headline }
+{
+    one_command();
+    one_answer();
+    input_apart();
+    loaded_is_loadable();
+    one_verdict();
+    one_text();
+    reads_or_fails();
+    run_law();
+    completeness();
+    soundness_laws();
 }
 
 // Whatever the files hold, `run` comes to one outcome and no other.
@@ -23,6 +45,25 @@ fn one_run()
     ensures one { (contents : Contents) (elf input : List ℕ) (steps : ℕ) (o p : Outcome) → IsRunOutcome contents elf input steps o → IsRunOutcome contents elf input steps p → o ≡ p }
 {
     one_answer();
+}
+
+// Whatever the files hold, `witness` comes to one outcome and no other.
+fn one_witness()
+    ensures some { (contents : Contents) (elf input tables : List ℕ) (steps : ℕ) → (o : Outcome) × IsWitnessOutcome contents elf input tables steps o }
+    ensures one { (contents : Contents) (elf input tables : List ℕ) (steps : ℕ) (o p : Outcome) → IsWitnessOutcome contents elf input tables steps o → IsWitnessOutcome contents elf input tables steps p → o ≡ p }
+{
+    one_answer();
+}
+
+// Whatever bytes the files hold, `check` comes to one outcome and no other.
+fn one_check()
+    ensures some { (contents : Contents) (elf input tables : List ℕ) → AreBytes contents → (o : Outcome) × IsCheckOutcome contents elf input tables o }
+    ensures one { (contents : Contents) (elf input tables : List ℕ) (o p : Outcome) → IsCheckOutcome contents elf input tables o → IsCheckOutcome contents elf input tables p → o ≡ p }
+{
+    one_answer();
+    one_verdict();
+    one_text();
+    reads_or_fails();
 }
 
 // Whatever bytes the files hold, `pil` comes to one outcome and no other.

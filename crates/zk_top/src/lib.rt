@@ -6,13 +6,22 @@ mod commands;
 mod emulation;
 mod ending;
 mod files;
+mod judging;
 mod laws;
+mod loading;
+mod printing;
 mod report;
 mod running;
+mod tables;
 #[cfg(test)]
 mod tests;
+mod witnessing;
+mod writing;
 
 pub use checking::pil_call;
 pub use commands::top;
-pub use laws::one_outcome;
+pub use judging::check_call;
+pub use laws::{headline, one_outcome};
+pub use printing::print_call;
 pub use running::run_call;
+pub use witnessing::witness_one;

@@ -5,29 +5,46 @@ ghost use Rattle.pil_ast.specs.Columns.{Fits};
 ghost use Rattle.pil_ast.specs.Sound.{IsSound};
 ghost use Rattle.pil_ast.specs.Reading.{IsPlaceIn};
 ghost use Rattle.pil_ast.specs.Value.{value_of_place};
-ghost use Rattle.zk_top.specs.Outcome.{run_report, public_line, pil_report};
+ghost use Rattle.zk_top.specs.Outcome.{public_text, run_report, check_report, public_line, pil_report};
 ghost use Rattle.zk_top.specs.Parts.{IsPublicIn};
 
 use gold::Fe;
 use itoa::Buffer;
 use pil_ast::{Columns, Item, Pil, Place};
-use rv_model::Ran;
+use rv_model::Public;
 use std::alloc::{AllocError, Global};
 
 /// The number of steps, the exit code, and the output window in hexadecimal digits, a line each.
-pub fn run_text(alloc: Global, ran: &Ran) -> Result<Vec<u8>, AllocError>
-    ensures { IfOk result (λ text. text.items ≡ run_report ran.now.steps ran.now.public) }
+pub fn run_text(alloc: Global, steps: u32, public: &Public) -> Result<Vec<u8>, AllocError>
+    ensures { IfOk result (λ text. text.items ≡ run_report steps public.now) }
 {
-    let mut buffer = Buffer::new();
     let mut text = Vec::from_slice(alloc, b"steps ")?;
-    text.extend_from_slice(buffer.format(ran.steps).as_bytes())?;
-    text.extend_from_slice(b"\nexit ")?;
-    text.extend_from_slice(buffer.format(ran.public.exit).as_bytes())?;
+    text.extend_from_slice(Buffer::new().format(steps).as_bytes())?;
+    text.push(b'\n')?;
+    push_public_output(alloc, public, &mut text)?;
+    Ok(text)
+}
+
+/// The line `accepted`, the exit code, and the output window in hexadecimal digits, a line each.
+pub fn check_text(alloc: Global, public: &Public) -> Result<Vec<u8>, AllocError>
+    ensures { IfOk result (λ text. text.items ≡ check_report public.now) }
+{
+    let mut text = Vec::from_slice(alloc, b"accepted\n")?;
+    push_public_output(alloc, public, &mut text)?;
+    Ok(text)
+}
+
+// Writes the lines of what is published.
+fn push_public_output(alloc: Global, public: &Public, text: &mut Vec<u8>) -> Result<(), AllocError>
+    ensures { OnOk result (text.new.items ≡ text.old.items ++ public_text public.now) }
+{
+    text.extend_from_slice(b"exit ")?;
+    text.extend_from_slice(Buffer::new().format(public.exit).as_bytes())?;
     text.extend_from_slice(b"\noutput ")?;
-    let digits = hex::encode(alloc, ran.public.output.as_slice())?;
+    let digits = hex::encode(alloc, public.output.as_slice())?;
     text.extend_from_slice(digits.as_bytes())?;
     text.push(b'\n')?;
-    Ok(text)
+    Ok(())
 }
 
 /// The line `accepted`, and the publics by name and value in order of the text, a line each.

@@ -1,44 +1,27 @@
 //! The command `run`.
-ghost use Rattle.std.specs.Prelude.{◌≡◌, ◌≢◌, ◌≤◌, ◌<◌, IfOk, IfErr, IsErrOf};
+ghost use Rattle.std.specs.Prelude.{◌≡◌, ◌≢◌, ◌≤◌, ◌<◌, IsErrOf};
+ghost use Rattle.rv_model.specs.Run.{end_within};
 ghost use Rattle.host_io.specs.Calls.{HasRisen};
-ghost use Rattle.zk_top.specs.Outcome.{Outcome, IsRunOutcome};
+ghost use Rattle.zk_top.specs.Outcome.{Outcome, IsRunOutcome, of_run};
 ghost use Rattle.zk_top.specs.Ends.{Ends};
-ghost use Rattle.zk_top.specs.Parts.{Leads, RunLeads, IsOnlyImage, IsRefusal};
+ghost use Rattle.zk_top.specs.Parts.{Leads, Comes};
 
 use crate::emulation::emulate;
 use crate::ending::{finish, refuse};
-use crate::files::{file_of, stopped};
+use crate::loading::program_of;
 use crate::report::run_text;
-use elf_load::{ElfErr, load};
 use host_io::Host;
-use rv_model::{INPUT_LEN, Image, RunEnd};
+use rv_model::{Image, RunEnd};
 use std::alloc::Global;
-use zk_words::{Status, Which};
-
-/// An ELF file has at most so many bytes.
-const ELF_LIMIT: u64 = 1 << 26;
-/// An input has at most so many bytes, since its length stands before it in the input window.
-const INPUT_LIMIT: u64 = INPUT_LEN - 8;
-
-// The image of an ELF file, with no input yet.
-fn image_of(alloc: Global, file: &[u8]) -> Result<Image, Status>
-    ensures only { IfOk result (IsOnlyImage file.now) }
-    ensures refused { IfErr result (IsRefusal file.now) }
-{
-    match load(alloc, file, &[]) {
-        Ok(image) => Ok(image),
-        Err(ElfErr::NoMemory) => Err(Status::NoMemory),
-        Err(e) => Err(Status::BadElf(e)),
-    }
-}
+use zk_words::Status;
 
 // The report of the image's run, or how it ends without.
 fn report_of_run(alloc: Global, image: Image, steps: u32) -> Result<Vec<u8>, Status>
-    ensures leads { RunLeads image steps result }
+    ensures comes { Comes (λ names o. o ≡ of_run names steps (end_within image steps)) result }
     ensures no_bad_words { IsErrOf result Status.BadWords → ⊥ }
 {
     match emulate(alloc, image, steps) {
-        Ok(ran) => match run_text(alloc, &ran) {
+        Ok(ran) => match run_text(alloc, ran.steps, &ran.public) {
             Ok(text) => Ok(text),
             Err(_) => Err(Status::NoMemory),
         },
@@ -62,17 +45,9 @@ fn work<H: Host>(
     ensures no_bad_words { IsErrOf result Status.BadWords → ⊥ }
     ensures fault { IsErrOf result Status.HostFault → HasRisen (H.faults host.old) (H.faults host.new) }
 {
-    let file = match file_of(alloc, host, elf, ELF_LIMIT) {
-        Ok(file) => file,
-        Err(e) => return Err(stopped(e, Which::Elf)),
-    };
-    let image = match image_of(alloc, &file) {
-        Ok(image) => image,
-        Err(status) => return Err(status),
-    };
-    match file_of(alloc, host, input, INPUT_LIMIT) {
-        Ok(input) => report_of_run(alloc, image.with_input(input), steps),
-        Err(e) => Err(stopped(e, Which::Input)),
+    match program_of(alloc, host, elf, input) {
+        Ok(image) => report_of_run(alloc, image, steps),
+        Err(status) => Err(status),
     }
 }
 

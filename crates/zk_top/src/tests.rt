@@ -223,3 +223,120 @@ fn a_failing_host_ends_the_check(rt: HostRuntime) -> Result<(), Fail> {
     }
     Ok(())
 }
+
+// A host with the ELF file of `EXIT_SEVEN`, an empty input, and these tables.
+fn host_of_tables(alloc: Global, tables: Option<Vec<u8>>) -> Result<MemHost, AllocError> {
+    let mut files = Vec::new(alloc);
+    let elf = file(alloc, &EXIT_SEVEN, (7, 0))?;
+    files.push((String::from_str(alloc, "E")?, elf))?;
+    files.push((String::from_str(alloc, "I")?, Vec::new(alloc)))?;
+    if let Some(bytes) = tables {
+        files.push((String::from_str(alloc, "T")?, bytes))?;
+    }
+    Ok(MemHost::new(alloc, files, 65_536, Vec::new(alloc)))
+}
+
+// The bytes of the tables of `EXIT_SEVEN`.
+fn tables(alloc: Global) -> Result<Vec<u8>, AllocError> {
+    let mut host = host_of_tables(alloc, None)?;
+    let _status = top(alloc, &words(alloc, "witness E I T 3 0")?, &mut host);
+    match host.written("T") {
+        Some(bytes) => bytes.to_vec(alloc),
+        None => Ok(Vec::new(alloc)),
+    }
+}
+
+#[test]
+fn tables_are_written_and_accepted(rt: HostRuntime) -> Result<(), Fail> {
+    let alloc = rt.alloc();
+    let mut host = host_of_tables(alloc, None)?;
+    let status = top(alloc, &words(alloc, "witness E I T 3 0")?, &mut host);
+    assert_eq!(rt; status.code(), 0);
+    let mut report = Vec::from_slice(alloc, b"steps 3\nexit 7\noutput ")?;
+    report.resize(report.len() + 512, b'0')?;
+    report.push(b'\n')?;
+    assert_eq!(rt; host.reported(), report.as_slice());
+    assert_eq!(rt; host.written("T").map(|bytes| bytes.len()), Some(4_064_364));
+    let status = top(alloc, &words(alloc, "check E I T")?, &mut host);
+    assert_eq!(rt; status.code(), 0);
+    report.extend_from_slice(b"accepted\nexit 7\noutput ")?;
+    report.resize(report.len() + 512, b'0')?;
+    report.push(b'\n')?;
+    assert_eq!(rt; host.reported(), report.as_slice());
+    Ok(())
+}
+
+// Column 4 of Mem, `lo`, at row 40: behind the header, Main's instance and what stands before Mem's values.
+const LO_AT_40: usize = 44 + (16 + 37 * 4096 * 8) + 16 + (4 * 8192 + 40) * 8;
+
+#[test]
+fn a_forged_value_breaks_a_line(rt: HostRuntime) -> Result<(), Fail> {
+    let alloc = rt.alloc();
+    let mut bytes = tables(alloc)?;
+    if let Some(byte) = bytes.get_mut(LO_AT_40) {
+        *byte = 8;
+    }
+    let mut host = host_of_tables(alloc, Some(bytes))?;
+    let status = top(alloc, &words(alloc, "check E I T")?, &mut host);
+    assert_eq!(rt; status.code(), 1);
+    assert_eq!(rt;
+        host.reported(),
+        b"broken line 20 tuple 536870922,34359738368,0,7,0 left 1 right 0\n".as_slice()
+    );
+    Ok(())
+}
+
+#[test]
+fn tables_that_are_cut_are_refused(rt: HostRuntime) -> Result<(), Fail> {
+    let alloc = rt.alloc();
+    let mut bytes = tables(alloc)?;
+    let _last = bytes.pop();
+    let mut host = host_of_tables(alloc, Some(bytes))?;
+    let status = top(alloc, &words(alloc, "check E I T")?, &mut host);
+    assert_eq!(rt; status.code(), 6);
+    assert_eq!(rt; host.reported(), b"bad tables Short 4064363\n".as_slice());
+    Ok(())
+}
+
+#[test]
+fn the_machine_is_printed_in_both_profiles(rt: HostRuntime) -> Result<(), Fail> {
+    let alloc = rt.alloc();
+    for (line, main) in [
+        ("machine", "namespace Main(4096);\n"),
+        ("machine wide", "namespace Main(16384);\n"),
+    ] {
+        let mut host = host_of_tables(alloc, None)?;
+        let status = top(alloc, &words(alloc, line)?, &mut host);
+        assert_eq!(rt; status.code(), 0, "at {line}");
+        let found = host
+            .reported()
+            .windows(main.len())
+            .any(|piece| piece == main.as_bytes());
+        assert!(rt; found, "at {line}");
+    }
+    Ok(())
+}
+
+#[test]
+fn a_failing_host_leaves_a_front_of_the_tables(rt: HostRuntime) -> Result<(), Fail> {
+    let alloc = rt.alloc();
+    for (call, number, written) in [
+        (HostCall::Create, 0, None),
+        (HostCall::Write, 0, Some(0)),
+        (HostCall::Write, 2, Some(2 * 65_536)),
+        (HostCall::Report, 0, Some(4_064_364)),
+    ] {
+        let mut failing = Vec::new(alloc);
+        failing.push((call, number))?;
+        let mut files = Vec::new(alloc);
+        let elf = file(alloc, &EXIT_SEVEN, (7, 0))?;
+        files.push((String::from_str(alloc, "E")?, elf))?;
+        files.push((String::from_str(alloc, "I")?, Vec::new(alloc)))?;
+        let mut host = MemHost::new(alloc, files, 65_536, failing);
+        let status = top(alloc, &words(alloc, "witness E I T 3 0")?, &mut host);
+        assert_eq!(rt; status.code(), 9);
+        assert_eq!(rt; host.written("T").map(|bytes| bytes.len()), written);
+        assert_eq!(rt; host.reported().len(), 0);
+    }
+    Ok(())
+}

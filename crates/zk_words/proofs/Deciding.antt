@@ -3,8 +3,10 @@ use Rattle.std.proofs.Common.{◌≡◌, ◌⊎◌, inl, inr, ℕ, zero, suc, �
 use Rattle.std.specs.Prelude.{codes, decimal}
 use Rattle.std.proofs.lemmas.Bool.{eqb-true, eqb-false, leb-true, leb-false}
 use Rattle.std.proofs.lemmas.Fmt.{decimal_injective}
+use Rattle.gold.specs.declared.shapes.Profile.TheVariants.{Small, Wide}
 use Rattle.zk_words.specs.declared.command.Command.{Command}
-use Rattle.zk_words.specs.declared.command.Command.TheVariants.{Run, Pil}
+use Rattle.zk_words.specs.declared.command.Command.TheVariants.{Run, Witness, Check, Pil, Machine}
+use Rattle.zk_words.specs.declared.command.TheConstants.{MOST_WORKERS}
 use Rattle.zk_words.specs.Words.{IsNumber, Reads}
 
 -- ---- equal numbers, equal texts
@@ -52,55 +54,169 @@ has_number least end text small (inl f) =
     ] refl
 has_number least end text small (inr never) = inr (λ n h. never n h.2 h.0)
 
--- ---- commands
+steps_number : (text : List ℕ) → HasNumber 1 (2 ^ 32) text
+steps_number text = has_number 1 (2 ^ 32) text (omega arith) (below text (2 ^ 32))
 
-abbrev IsRun : List (List ℕ) → Type 0
-IsRun words = ((steps : ℕ) × Reads words (Run steps)) ⊎ ((steps : ℕ) → Reads words (Run steps) → ⊥)
+workers_number : (text : List ℕ) → HasNumber 0 (MOST_WORKERS + 1) text
+workers_number text = has_number 0 (MOST_WORKERS + 1) text (omega arith) (below text (MOST_WORKERS + 1))
 
-of_four : (a b c d : List ℕ) → (a ≡ codes "run") ⊎ (a ≡ codes "run" → ⊥) → HasNumber 1 (2 ^ 32) d → IsRun (a ∷ b ∷ c ∷ d ∷ [])
-of_four a b c d (inl e) (inl n) = inl (n.0, (b, c, d, ap (λ (x : List ℕ). x ∷ b ∷ c ∷ d ∷ []) e, n.1))
-of_four a b c d (inl e) (inr never) =
-    inr (λ steps h. let same : h.2 ≡ d = cc in never steps (subst (λ (t : List ℕ). IsNumber 1 (2 ^ 32) t steps) same h.4))
-of_four a b c d (inr ne) n = inr (λ steps h. ne (cc))
+-- ---- commands, by how many words they have
 
-is_run : (words : List (List ℕ)) → IsRun words
-is_run [] = inr (λ steps h. cc)
-is_run (a ∷ []) = inr (λ steps h. cc)
-is_run (a ∷ b ∷ []) = inr (λ steps h. cc)
-is_run (a ∷ b ∷ c ∷ []) = inr (λ steps h. cc)
-is_run (a ∷ b ∷ c ∷ d ∷ []) = of_four a b c d (eq_texts a (codes "run")) (has_number 1 (2 ^ 32) d (omega arith) (below d (2 ^ 32)))
-is_run (a ∷ b ∷ c ∷ d ∷ e ∷ ws) = inr (λ steps h. cc)
+abbrev Decided : List (List ℕ) → Type 0
+Decided words = ((command : Command) × Reads words command) ⊎ ((command : Command) → Reads words command → ⊥)
 
-abbrev IsPil : List (List ℕ) → Type 0
-IsPil words = Reads words Pil ⊎ (Reads words Pil → ⊥)
+none : (command : Command) → Reads [] command → ⊥
+none (Run n) h = cc
+none (Witness n m) h = cc
+none Check h = cc
+none Pil h = cc
+none (Machine Small) h = cc
+none (Machine Wide) h = cc
 
-of_three : (a b c : List ℕ) → (a ≡ codes "pil") ⊎ (a ≡ codes "pil" → ⊥) → IsPil (a ∷ b ∷ c ∷ [])
-of_three a b c (inl e) = inl (b, c, ap (λ (x : List ℕ). x ∷ b ∷ c ∷ []) e)
-of_three a b c (inr ne) = inr (λ h. ne (cc))
+not_one : (a : List ℕ) → (a ≡ codes "machine" → ⊥) → (command : Command) → Reads (a ∷ []) command → ⊥
+not_one a ne (Run n) h = cc
+not_one a ne (Witness n m) h = cc
+not_one a ne Check h = cc
+not_one a ne Pil h = cc
+not_one a ne (Machine Small) h = ne cc
+not_one a ne (Machine Wide) h = cc
 
-is_pil : (words : List (List ℕ)) → IsPil words
-is_pil [] = inr (λ h. cc)
-is_pil (a ∷ []) = inr (λ h. cc)
-is_pil (a ∷ b ∷ []) = inr (λ h. cc)
-is_pil (a ∷ b ∷ c ∷ []) = of_three a b c (eq_texts a (codes "pil"))
-is_pil (a ∷ b ∷ c ∷ d ∷ ws) = inr (λ h. cc)
+of_one : (a : List ℕ) → (a ≡ codes "machine") ⊎ (a ≡ codes "machine" → ⊥) → Decided (a ∷ [])
+of_one a (inl e) = inl (Machine Small, ap (λ (x : List ℕ). x ∷ []) e)
+of_one a (inr ne) = inr (not_one a ne)
 
-neither : (words : List (List ℕ)) → ((steps : ℕ) → Reads words (Run steps) → ⊥) → (Reads words Pil → ⊥) → (command : Command) → Reads words command → ⊥
-neither words run pil (Run steps) h = run steps h
-neither words run pil Pil h = pil h
+not_two : (a b : List ℕ) → ((a ≡ codes "machine") → (b ≡ codes "wide") → ⊥) → (command : Command) → Reads (a ∷ b ∷ []) command → ⊥
+not_two a b ne (Run n) h = cc
+not_two a b ne (Witness n m) h = cc
+not_two a b ne Check h = cc
+not_two a b ne Pil h = cc
+not_two a b ne (Machine Small) h = cc
+not_two a b ne (Machine Wide) h =
+    let first : a ≡ codes "machine" = cc in
+    let second : b ≡ codes "wide" = cc in
+    ne first second
 
-of_both : (words : List (List ℕ)) → IsRun words → IsPil words → ((command : Command) × Reads words command) ⊎ ((command : Command) → Reads words command → ⊥)
-of_both words (inl r) p = inl (Run r.0, r.1)
-of_both words (inr run) (inl p) = inl (Pil, p)
-of_both words (inr run) (inr pil) = inr (neither words run pil)
+of_two : (a b : List ℕ) → (a ≡ codes "machine") ⊎ (a ≡ codes "machine" → ⊥) → (b ≡ codes "wide") ⊎ (b ≡ codes "wide" → ⊥) → Decided (a ∷ b ∷ [])
+of_two a b (inl e) (inl f) = inl (Machine Wide, ap (λ (x : List ℕ). x ∷ b ∷ []) e ∙ ap (λ (x : List ℕ). codes "machine" ∷ x ∷ []) f)
+of_two a b (inl e) (inr ne) = inr (not_two a b (λ first second. ne second))
+of_two a b (inr ne) d = inr (not_two a b (λ first second. ne first))
+
+not_three : (a b c : List ℕ) → (a ≡ codes "pil" → ⊥) → (command : Command) → Reads (a ∷ b ∷ c ∷ []) command → ⊥
+not_three a b c ne (Run n) h = cc
+not_three a b c ne (Witness n m) h = cc
+not_three a b c ne Check h = cc
+not_three a b c ne Pil h = ne cc
+not_three a b c ne (Machine Small) h = cc
+not_three a b c ne (Machine Wide) h = cc
+
+of_three : (a b c : List ℕ) → (a ≡ codes "pil") ⊎ (a ≡ codes "pil" → ⊥) → Decided (a ∷ b ∷ c ∷ [])
+of_three a b c (inl e) = inl (Pil, (b, c, ap (λ (x : List ℕ). x ∷ b ∷ c ∷ []) e))
+of_three a b c (inr ne) = inr (not_three a b c ne)
+
+not_four : (a b c d : List ℕ) → ((a ≡ codes "run") → (n : ℕ) → IsNumber 1 (2 ^ 32) d n → ⊥) → (a ≡ codes "check" → ⊥) → (command : Command) → Reads (a ∷ b ∷ c ∷ d ∷ []) command → ⊥
+not_four a b c d run check (Run n) h =
+    let first : a ≡ codes "run" = cc in
+    let last : h.2 ≡ d = cc in
+    run first n (subst (λ (t : List ℕ). IsNumber 1 (2 ^ 32) t n) last h.4)
+not_four a b c d run check (Witness n m) h = cc
+not_four a b c d run check Check h = check cc
+not_four a b c d run check Pil h = cc
+not_four a b c d run check (Machine Small) h = cc
+not_four a b c d run check (Machine Wide) h = cc
+
+of_four : (a b c d : List ℕ) → (a ≡ codes "run") ⊎ (a ≡ codes "run" → ⊥) → (a ≡ codes "check") ⊎ (a ≡ codes "check" → ⊥) → HasNumber 1 (2 ^ 32) d → Decided (a ∷ b ∷ c ∷ d ∷ [])
+of_four a b c d run (inl e) number = inl (Check, (b, c, d, ap (λ (x : List ℕ). x ∷ b ∷ c ∷ d ∷ []) e))
+of_four a b c d (inl e) (inr not_check) (inl n) = inl (Run n.0, (b, c, d, ap (λ (x : List ℕ). x ∷ b ∷ c ∷ d ∷ []) e, n.1))
+of_four a b c d (inl e) (inr not_check) (inr never) = inr (not_four a b c d (λ first n is. never n is) not_check)
+of_four a b c d (inr ne) (inr not_check) number = inr (not_four a b c d (λ first n is. ne first) not_check)
+
+not_six : (a b c d s w : List ℕ) → ((a ≡ codes "witness") → (n m : ℕ) → IsNumber 1 (2 ^ 32) s n → IsNumber 0 (MOST_WORKERS + 1) w m → ⊥) → (command : Command) → Reads (a ∷ b ∷ c ∷ d ∷ s ∷ w ∷ []) command → ⊥
+not_six a b c d s w never (Run n) h = cc
+not_six a b c d s w never (Witness n m) h =
+    let first : a ≡ codes "witness" = cc in
+    let steps : h.3 ≡ s = cc in
+    let workers : h.4 ≡ w = cc in
+    never first n m (subst (λ (t : List ℕ). IsNumber 1 (2 ^ 32) t n) steps h.6) (subst (λ (t : List ℕ). IsNumber 0 (MOST_WORKERS + 1) t m) workers h.7)
+not_six a b c d s w never Check h = cc
+not_six a b c d s w never Pil h = cc
+not_six a b c d s w never (Machine Small) h = cc
+not_six a b c d s w never (Machine Wide) h = cc
+
+of_six : (a b c d s w : List ℕ) → (a ≡ codes "witness") ⊎ (a ≡ codes "witness" → ⊥) → HasNumber 1 (2 ^ 32) s → HasNumber 0 (MOST_WORKERS + 1) w → Decided (a ∷ b ∷ c ∷ d ∷ s ∷ w ∷ [])
+of_six a b c d s w (inr ne) n m = inr (not_six a b c d s w (λ first k l ks ls. ne first))
+of_six a b c d s w (inl e) (inl n) (inl m) = inl (Witness n.0 m.0, (b, c, d, s, w, ap (λ (x : List ℕ). x ∷ b ∷ c ∷ d ∷ s ∷ w ∷ []) e, n.1, m.1))
+of_six a b c d s w (inl e) (inr never) m = inr (not_six a b c d s w (λ first k l ks ls. never k ks))
+of_six a b c d s w (inl e) (inl n) (inr never) = inr (not_six a b c d s w (λ first k l ks ls. never l ls))
+
+not_five : (a b c d e : List ℕ) (command : Command) → Reads (a ∷ b ∷ c ∷ d ∷ e ∷ []) command → ⊥
+not_five a b c d e (Run n) h = cc
+not_five a b c d e (Witness n m) h = cc
+not_five a b c d e Check h = cc
+not_five a b c d e Pil h = cc
+not_five a b c d e (Machine Small) h = cc
+not_five a b c d e (Machine Wide) h = cc
+
+not_more : (a b c d e f g : List ℕ) (ws : List (List ℕ)) (command : Command) → Reads (a ∷ b ∷ c ∷ d ∷ e ∷ f ∷ g ∷ ws) command → ⊥
+not_more a b c d e f g ws (Run n) h = cc
+not_more a b c d e f g ws (Witness n m) h = cc
+not_more a b c d e f g ws Check h = cc
+not_more a b c d e f g ws Pil h = cc
+not_more a b c d e f g ws (Machine Small) h = cc
+not_more a b c d e f g ws (Machine Wide) h = cc
 
 pub decided : (words : List (List ℕ)) → ((command : Command) × Reads words command) ⊎ ((command : Command) → Reads words command → ⊥)
-decided words = of_both words (is_run words) (is_pil words)
+decided [] = inr none
+decided (a ∷ []) = of_one a (eq_texts a (codes "machine"))
+decided (a ∷ b ∷ []) = of_two a b (eq_texts a (codes "machine")) (eq_texts b (codes "wide"))
+decided (a ∷ b ∷ c ∷ []) = of_three a b c (eq_texts a (codes "pil"))
+decided (a ∷ b ∷ c ∷ d ∷ []) = of_four a b c d (eq_texts a (codes "run")) (eq_texts a (codes "check")) (steps_number d)
+decided (a ∷ b ∷ c ∷ d ∷ e ∷ []) = inr (not_five a b c d e)
+decided (a ∷ b ∷ c ∷ d ∷ e ∷ f ∷ []) = of_six a b c d e f (eq_texts a (codes "witness")) (steps_number e) (workers_number f)
+decided (a ∷ b ∷ c ∷ d ∷ e ∷ f ∷ g ∷ ws) = inr (not_more a b c d e f g ws)
+
+-- ---- one command
+
 
 pub one : (words : List (List ℕ)) (a b : Command) → Reads words a → Reads words b → a ≡ b
 one words (Run s) (Run t) h k =
     let same : h.2 ≡ k.2 = cc in
     ap (λ (n : ℕ). Run n) (one_number 1 (2 ^ 32) h.2 s t (omega arith) h.4 k.4.2 (same ∙ k.4.0))
+one words (Run s) (Witness t m) h k = cc
+one words (Run s) Check h k = cc
 one words (Run s) Pil h k = cc
+one words (Run s) (Machine Small) h k = cc
+one words (Run s) (Machine Wide) h k = cc
+one words (Witness s m) (Run t) h k = cc
+one words (Witness s m) (Witness t l) h k =
+    let steps : h.3 ≡ k.3 = cc in
+    let workers : h.4 ≡ k.4 = cc in
+    ap (λ (n : ℕ). Witness n m) (one_number 1 (2 ^ 32) h.3 s t (omega arith) h.6 k.6.2 (steps ∙ k.6.0))
+    ∙ ap (λ (n : ℕ). Witness t n) (one_number 0 (MOST_WORKERS + 1) h.4 m l (omega arith) h.7 k.7.2 (workers ∙ k.7.0))
+one words (Witness s m) Check h k = cc
+one words (Witness s m) Pil h k = cc
+one words (Witness s m) (Machine Small) h k = cc
+one words (Witness s m) (Machine Wide) h k = cc
+one words Check (Run t) h k = cc
+one words Check (Witness t m) h k = cc
+one words Check Check h k = refl
+one words Check Pil h k = cc
+one words Check (Machine Small) h k = cc
+one words Check (Machine Wide) h k = cc
 one words Pil (Run t) h k = cc
+one words Pil (Witness t m) h k = cc
+one words Pil Check h k = cc
 one words Pil Pil h k = refl
+one words Pil (Machine Small) h k = cc
+one words Pil (Machine Wide) h k = cc
+one words (Machine Small) (Run t) h k = cc
+one words (Machine Small) (Witness t m) h k = cc
+one words (Machine Small) Check h k = cc
+one words (Machine Small) Pil h k = cc
+one words (Machine Small) (Machine Small) h k = refl
+one words (Machine Small) (Machine Wide) h k = cc
+one words (Machine Wide) (Run t) h k = cc
+one words (Machine Wide) (Witness t m) h k = cc
+one words (Machine Wide) Check h k = cc
+one words (Machine Wide) Pil h k = cc
+one words (Machine Wide) (Machine Small) h k = cc
+one words (Machine Wide) (Machine Wide) h k = refl

@@ -1,8 +1,10 @@
 -- Which words read as which command (docs/COMMANDS.md).
-use Rattle.std.specs.Prelude.{◌≡◌, ℕ, ◌<◌, ◌≤◌, ◌^◌, List, [], ◌∷◌, codes, decimal, map, string_bytes, String}
+use Rattle.std.specs.Prelude.{◌≡◌, ℕ, ◌+◌, ◌<◌, ◌≤◌, ◌^◌, List, [], ◌∷◌, codes, decimal, map, string_bytes, String}
 use Rattle.std.specs.declared.alloc.Global.{Global}
 use Rattle.zk_words.specs.declared.command.Command.{Command}
-use Rattle.zk_words.specs.declared.command.Command.TheVariants.{Run, Pil}
+use Rattle.gold.specs.declared.shapes.Profile.TheVariants.{Small, Wide}
+use Rattle.zk_words.specs.declared.command.Command.TheVariants.{Run, Witness, Check, Pil, Machine}
+use Rattle.zk_words.specs.declared.command.TheConstants.{MOST_WORKERS}
 
 -- the bytes of each word
 abbrev pub texts : List (String Global) → List (List ℕ)
@@ -15,4 +17,10 @@ IsNumber least end text n = (text ≡ decimal n) × (least ≤ n) × (n < end)
 -- the words read as the command
 abbrev pub Reads : List (List ℕ) → Command → Type 0
 Reads words (Run steps) = (elf : List ℕ) × (input : List ℕ) × (text : List ℕ) × (words ≡ codes "run" ∷ elf ∷ input ∷ text ∷ []) × IsNumber 1 (2 ^ 32) text steps
+Reads words (Witness steps workers) =
+    (elf : List ℕ) × (input : List ℕ) × (tables : List ℕ) × (text : List ℕ) × (number : List ℕ)
+    × (words ≡ codes "witness" ∷ elf ∷ input ∷ tables ∷ text ∷ number ∷ []) × IsNumber 1 (2 ^ 32) text steps × IsNumber 0 (MOST_WORKERS + 1) number workers
+Reads words Check = (elf : List ℕ) × (input : List ℕ) × (tables : List ℕ) × (words ≡ codes "check" ∷ elf ∷ input ∷ tables ∷ [])
 Reads words Pil = (pil : List ℕ) × (tables : List ℕ) × (words ≡ codes "pil" ∷ pil ∷ tables ∷ [])
+Reads words (Machine Small) = words ≡ codes "machine" ∷ []
+Reads words (Machine Wide) = words ≡ codes "machine" ∷ codes "wide" ∷ []

@@ -1,17 +1,27 @@
 //! The words of the command line.
-ghost use Rattle.std.specs.Prelude.{◌≡◌, ◌⊎◌, ℕ, ◌+◌, ◌<◌, ◌≤◌, ◌^◌, List, IfSome, Some, decimal};
+ghost use Rattle.std.specs.Prelude.{◌≡◌, ◌⊎◌, ℕ, ◌+◌, ◌<◌, ◌≤◌, ◌^◌, List, [], ◌∷◌, IfSome, Some, decimal};
 ghost use Rattle.zk_words.specs.Words.{Reads, texts, IsNumber};
 ghost use Rattle.zk_words.specs.declared.command.Command.{Command};
 
+use gold::Profile;
 use itoa::Buffer;
+
+/// At most so many workers.
+pub const MOST_WORKERS: u32 = 0;
 
 /// What the words ask for. A command's file names are the words at their places.
 #[derive(Clone, Copy, Debug, PartialEq, Eq)]
 pub enum Command {
     /// `run ELF INPUT STEPS`
     Run { steps: u32 },
+    /// `witness ELF INPUT TABLES STEPS WORKERS`
+    Witness { steps: u32, workers: u32 },
+    /// `check ELF INPUT TABLES`
+    Check,
     /// `pil PILFILE TABLES`
     Pil,
+    /// `machine` is Small's, `machine wide` is Wide's.
+    Machine { profile: Profile },
 }
 
 // The number that the text is the decimal form of.
@@ -44,19 +54,67 @@ fn number_from(least: u32, most: u32, text: &str) -> Option<u32>
     }
 }
 
+// The command of two words.
+fn of_two(first: &str, second: &str) -> Option<Command>
+    ensures found { IfSome result (Reads (first.now ∷ second.now ∷ [])) }
+    ensures only { (c : Command) → Reads (first.now ∷ second.now ∷ []) c → result ≡ Some c }
+{
+    if first == "machine" && second == "wide" {
+        Some(Command::Machine {
+            profile: Profile::Wide,
+        })
+    } else {
+        None
+    }
+}
+
+// The command of four words, of which these are the first and the last.
+fn of_four(first: &str, last: &str) -> Option<Command>
+    ensures found { (b c : List ℕ) → IfSome result (Reads (first.now ∷ b ∷ c ∷ last.now ∷ [])) }
+    ensures only { (b c : List ℕ) (command : Command) → Reads (first.now ∷ b ∷ c ∷ last.now ∷ []) command → result ≡ Some command }
+{
+    match first {
+        "run" => match number_from(1, u32::MAX, last) {
+            Some(steps) => Some(Command::Run { steps }),
+            None => None,
+        },
+        "check" => Some(Command::Check),
+        _ => None,
+    }
+}
+
+// The command of six words, of which these are the first and the last two.
+fn of_six(first: &str, steps: &str, workers: &str) -> Option<Command>
+    ensures found { (b c d : List ℕ) → IfSome result (Reads (first.now ∷ b ∷ c ∷ d ∷ steps.now ∷ workers.now ∷ [])) }
+    ensures only { (b c d : List ℕ) (command : Command) → Reads (first.now ∷ b ∷ c ∷ d ∷ steps.now ∷ workers.now ∷ []) command → result ≡ Some command }
+{
+    if first != "witness" {
+        return None;
+    }
+    match (
+        number_from(1, u32::MAX, steps),
+        number_from(0, MOST_WORKERS, workers),
+    ) {
+        (Some(steps), Some(workers)) => Some(Command::Witness { steps, workers }),
+        _ => None,
+    }
+}
+
 /// The command that the words read as, if they read as one.
 pub fn read_words(words: &[String]) -> Option<Command>
     ensures found { IfSome result (Reads (texts words.now)) }
     ensures only { (c : Command) → Reads (texts words.now) c → result ≡ Some c }
 {
     match words {
-        [name, _, _, steps] if name.as_str() == "run" => {
-            match number_from(1, u32::MAX, steps.as_str()) {
-                Some(steps) => Some(Command::Run { steps }),
-                None => None,
-            }
-        }
+        [name] if name.as_str() == "machine" => Some(Command::Machine {
+            profile: Profile::Small,
+        }),
+        [first, second] => of_two(first.as_str(), second.as_str()),
         [name, _, _] if name.as_str() == "pil" => Some(Command::Pil),
+        [first, _, _, last] => of_four(first.as_str(), last.as_str()),
+        [first, _, _, _, steps, workers] => {
+            of_six(first.as_str(), steps.as_str(), workers.as_str())
+        }
         _ => None,
     }
 }
@@ -96,9 +154,33 @@ mod tests {
                 "at {line}"
             );
         }
-        for line in ["pil|a|b", "pil||", "pil|pil|pil"] {
+        for (line, command) in [
+            ("pil|a|b", Command::Pil),
+            ("pil||", Command::Pil),
+            ("pil|pil|pil", Command::Pil),
+            ("check|a|b|c", Command::Check),
+            (
+                "machine",
+                Command::Machine {
+                    profile: Profile::Small,
+                },
+            ),
+            (
+                "machine|wide",
+                Command::Machine {
+                    profile: Profile::Wide,
+                },
+            ),
+            (
+                "witness|a|b|c|20|0",
+                Command::Witness {
+                    steps: 20,
+                    workers: 0,
+                },
+            ),
+        ] {
             let words = words(alloc, line)?;
-            assert_eq!(rt; read_words(&words), Some(Command::Pil), "at {line}");
+            assert_eq!(rt; read_words(&words), Some(command), "at {line}");
         }
         for line in [
             "",
@@ -119,6 +201,14 @@ mod tests {
             "--help",
             "run|a|b|0x3",
             "run|a|b|-1",
+            "check|a|b",
+            "machine|small",
+            "machine|x",
+            "machine|wide|x",
+            "witness|a|b|c|20",
+            "witness|a|b|c|20|1",
+            "witness|a|b|c|0|0",
+            "witness|a|b|c|20|0|x",
         ] {
             let words = words(alloc, line)?;
             assert_eq!(rt; read_words(&words), None, "at {line}");

@@ -5,6 +5,6 @@ mod command;
 mod line;
 mod status;
 
-pub use command::{Command, one_command, read_words};
+pub use command::{Command, MOST_WORKERS, one_command, read_words};
 pub use line::status_line;
 pub use status::{Status, Which};

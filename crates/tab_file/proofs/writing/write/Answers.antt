@@ -2,7 +2,8 @@ use Rattle.std.proofs.Common.{All, sym, subst}
 use Rattle.gold.specs.Shapes.{counts_from}
 use Rattle.gold.specs.declared.shapes.Form.TheVariants.{Two}
 use Rattle.tab_file.specs.Format.{header}
-use Rattle.tab_file.proofs.Heights.{IsSmall, tables_small, counts_small, texts_more, texts_all}
+use Rattle.tab_file.specs.Pieces.{IsSmall}
+use Rattle.tab_file.proofs.Heights.{tables_small, counts_small, texts_more, texts_all}
 use Rattle.tab_file.proofs.writing.write.Goals as goal
 
 pub put_header-requires : goal.put_header-requires
@@ -12,7 +13,7 @@ pub put_table-requires : goal.put_table-requires
 put_table-requires c =
     let all : All IsSmall c.as_slice-tables.result.now = rw c.as_slice-tables.ensures.items (tables_small c.args.witness.now c.requires) in
     let small = subst IsSmall (sym c.table-item.is) (all c.loop-table.table-index c.table-item.result c.loop-table-test.true) in
-    record { columns = small.columns; rows = small.rows }
+    small
 
 pub loop-table-preserved : goal.loop-table-preserved
 loop-table-preserved c =

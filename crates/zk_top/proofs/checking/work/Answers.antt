@@ -6,7 +6,7 @@ use Rattle.zk_words.specs.declared.status.Status.{Status}
 use Rattle.zk_top.specs.Outcome.{Contents, IsPilOutcome, OfTables}
 use Rattle.zk_top.specs.Parts.{Stops, IsNotRead, IsOnlyText, IsTextRefusal}
 use Rattle.zk_top.proofs.Stages.{stopped, asks_nothing, asks_both, read_both, file_on, stage_leads}
-use Rattle.zk_top.proofs.Constraints.{pair, OnPil, pil_begins, text_begins, text_on, text_stops, tables_names}
+use Rattle.zk_top.proofs.Constraints.{pair, OnPil, pil_begins, text_begins, text_on, text_stops, text_names}
 use Rattle.zk_top.proofs.checking.work.Goals as goal
 
 pub returns-in-Err-clause-leads : goal.returns-in-Err-clause-leads
@@ -45,7 +45,7 @@ returns-in-Ok-file_of-clause-leads g c = λ told o is.
     let found : old.contents c.args.tables.now ≡ Some file = sym (ap (λ (contents : Contents). contents c.args.tables.now) read.asks.contents) ∙ read_tables.found in
     let on_file = file_on both (old.contents c.args.tables.now) (2 ^ 48) files.Tables (OfTables both ns) o file found read_tables.fits on_text in
     stage_leads both (λ names. OfTables names ns file) o c.report_of_tables.result old new
-    (asks_both (Opened c.args.pil.now ∷ []) (Opened c.args.tables.now ∷ []) old mid new read.asks read_tables.asks) (read_both old mid new read.read read_tables.read) (tables_names both ns file o on_file) on_file c.report_of_tables.ensures.comes
+    (asks_both (Opened c.args.pil.now ∷ []) (Opened c.args.tables.now ∷ []) old mid new read.asks read_tables.asks) (read_both old mid new read.read read_tables.read) (text_names both ns file o on_file) on_file c.report_of_tables.ensures.comes
 
 pub returns-clause-leads : goal.returns-clause-leads
 unfolding IsPilOutcome

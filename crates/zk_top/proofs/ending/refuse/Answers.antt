@@ -9,7 +9,7 @@ returns-in-Ok g c = record {
   ends = λ told start o stops.
       let decided : IsDecided c.args.status = search rules in
       refused_ends o c.args.status c.finish.result c.deref.result.now start (g.H.Host.world c.args.host.now) (g.H.Host.world c.finish.new.host) decided (c.deref.ensures.value ∙ c.in-Ok.ensures) stops
-      (λ names asks read. c.finish.ensures.ends told start names asks read);
+      (λ ended is ready. c.finish.ensures.ends told start o ended is ready);
   status = c.finish.ensures.status;
   later = c.finish.ensures.later;
   fault = λ e. inr (c.finish.ensures.fault e);

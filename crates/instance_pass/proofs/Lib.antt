@@ -1,0 +1,5 @@
+pub mod Rows
+pub mod Elements
+pub mod Reading
+pub mod Passing
+pub mod Blocks

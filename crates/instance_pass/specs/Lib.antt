@@ -1,0 +1,4 @@
+pub mod Senders
+pub mod Checks
+pub mod Parts
+pub mod Passes

@@ -1,0 +1,3 @@
+pub mod Programs
+pub mod Plans
+pub mod Standing

@@ -1,0 +1,3 @@
+pub mod Publics
+pub mod Program
+pub mod Blocks

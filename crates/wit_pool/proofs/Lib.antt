@@ -1,0 +1,8 @@
+pub mod Results
+pub mod Serves
+pub mod Adding
+pub mod Tickets
+pub mod Leads
+pub mod Orders
+pub mod Places
+pub mod Wholes

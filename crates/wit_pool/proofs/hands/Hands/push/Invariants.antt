@@ -1,0 +1,10 @@
+use Rattle.std.proofs.Common.{◌≡◌, ◌∷◌, []}
+use Rattle.job_queue.specs.Calls.{image_of}
+use Rattle.job_queue.specs.Truth.{IsTrueOf}
+use Rattle.wit_pool.specs.Jobs.{jobs_of}
+use Rattle.wit_pool.specs.Serving.{IsServing, shares_of, pushed_of}
+use Rattle.wit_pool.proofs.hands.Hands.push.Given as goal
+
+abbrev pub invariant-loop : goal.invariant-loop
+invariant-loop g l =
+    (goal.iterator-loop g).can_next l.iterator' × (goal.iterator-loop g).is_finite l.iterator' × IsServing l.queue (shares_of l.fn.self) (pushed_of l.fn.self) l.hands × IsTrueOf (image_of l.queue) l.ticket × (jobs_of (l.ticket ∷ []) ≡ jobs_of (l.fn.ticket ∷ []))
