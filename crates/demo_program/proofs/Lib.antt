@@ -6,3 +6,4 @@ pub mod Walk
 pub mod Fetch
 pub mod Loaded
 pub mod Halting
+pub mod Octets

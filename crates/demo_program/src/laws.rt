@@ -1,6 +1,6 @@
 //! What a demo program's run comes to.
 ghost use Rattle.std.specs.Prelude.{◌≡◌, ◌+◌, ℕ, All, List, []};
-ghost use Rattle.rv_model.specs.Image.{Img};
+ghost use Rattle.rv_model.specs.Image.{AreBytes, Img};
 ghost use Rattle.rv_model.specs.Run.{RunsTo};
 ghost use Rattle.rv_model.specs.declared.answer.Public.{Public};
 ghost use Rattle.elf_load.specs.Loads.{Loads};
@@ -11,9 +11,10 @@ ghost use Rattle.demo_program.specs.Demo.{demo_file, HasWord, IsSize};
 use elf_load::one_answer;
 use rv_word::decoding_law;
 
-/// Each word of a demo program's file stands for its instruction.
+/// A demo program's file is bytes, and each word of it stands for its instruction.
 pub fn demo_words()
-    ensures { (number : ℕ) (kind : DemoKind) (size : ℕ) → All HasWord (instructions number kind size) }
+    ensures words { (number : ℕ) (kind : DemoKind) (size : ℕ) → All HasWord (instructions number kind size) }
+    ensures bytes { (number : ℕ) (kind : DemoKind) (size : ℕ) → AreBytes (demo_file number kind size) }
 {}
 
 /// A demo program's file loads without input, and the run of each image that it loads as halts with exit code 0 after
