@@ -9,3 +9,4 @@ pub mod Making
 pub mod Pieces
 pub mod Checks
 pub mod Sentences
+pub mod Demos

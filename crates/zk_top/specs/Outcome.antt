@@ -1,11 +1,14 @@
 -- What a command comes to, by its words and the contents of its files (docs/COMMANDS.md).
-use Rattle.std.specs.Prelude.{◌≡◌, ◌⊎◌, ℕ, ◌<◌, ◌-◌, ◌^◌, nat_le, MatchBool, List, [], ◌∷◌, ◌++◌, length, slice_index, map, flat_map, codes, decimal, Option, Some, None}
+use Rattle.std.specs.Prelude.{◌≡◌, ◌==◌, ◌⊎◌, ℕ, ◌<◌, ◌-◌, ◌^◌, nat_le, MatchBool, List, [], ◌∷◌, ◌++◌, length, slice_index, map, flat_map, count_by, codes, decimal, Option, Some, None}
+use Rattle.std.specs.List.{range_with_len}
 use Rattle.hex.specs.Hex.{encode_lower}
 use Rattle.host_io.specs.World.{Asked, Opened, Created}
 use Rattle.rv_model.specs.Image.{Img}
 use Rattle.rv_model.specs.Run.{End, Halted, Faulted, Limited, end_within}
 use Rattle.rv_model.specs.declared.answer.Public.{Public}
 use Rattle.elf_load.specs.Loads.{Loads}
+use Rattle.demo_program.specs.Demo.{demo_file}
+use Rattle.demo_program.specs.declared.kind.DemoKind.{DemoKind}
 use Rattle.elf_load.specs.Refusal.{Refused}
 use Rattle.elf_load.specs.declared.error.ElfErr.{ElfErr}
 use Rattle.gold.specs.declared.instances.Witness.{Witness}
@@ -34,7 +37,7 @@ use Rattle.run_tables.specs.Sequential.{sequential_witness}
 use Rattle.zk_words.specs.Words.{Reads}
 use Rattle.zk_words.specs.Lines.{line_of}
 use Rattle.zk_words.specs.declared.command.Command.{Command}
-use Rattle.zk_words.specs.declared.command.Command.TheVariants.{Run, Witness as MakeWitness, Check, Pil, Machine}
+use Rattle.zk_words.specs.declared.command.Command.TheVariants.{Run, Witness as MakeWitness, Check, Pil, Machine, Demo}
 use Rattle.zk_words.specs.declared.status.Which.{Which}
 use Rattle.zk_words.specs.declared.status.Which.TheVariants as files
 use Rattle.zk_words.specs.declared.status.Status.{Status}
@@ -201,6 +204,24 @@ IsCheckOutcome contents elf input tables o =
 abbrev pub IsMachineOutcome : List Asked → Profile → Outcome → Type 0
 IsMachineOutcome names profile o = o ≡ reporting names statuses.Done (printed (machine profile))
 
+-- how many tables there are of each air, in a line of a report
+abbrev pub instances_text : Witness → List ℕ
+instances_text witness = codes "instances" ++ flat_map (λ air. codes " " ++ decimal (count_by (λ t. t.air == air) witness.tables)) (range_with_len 0 7) ++ codes "\n"
+
+-- the report of a demo program: of its run, of its tables, and that they are accepted
+abbrev pub demo_report : ℕ → Public → Witness → List ℕ
+demo_report n public witness = run_report n public ++ instances_text witness ++ codes "accepted\n"
+
+-- `demo NUMBER KIND SIZE`: the program's file is loaded without input, its run halts, and the tables of the run are accepted
+pub record IsDemoOutcome (names : List Asked) (number : ℕ) (kind : DemoKind) (size : ℕ) (o : Outcome) : Type 0 where
+  pub image : Img
+  pub loads : Loads (demo_file number kind size) [] image
+  pub steps : ℕ
+  pub public : Public
+  pub halts : end_within image 4294967295 ≡ Halted steps public
+  pub accepted : AreAccepted image (sequential_witness image steps public)
+  pub is : o ≡ reporting names statuses.Done (demo_report steps public (sequential_witness image steps public))
+
 -- what a command comes to, whose file names are the words at their places
 abbrev pub IsOutcomeOf : Contents → List (List ℕ) → Command → Outcome → Type 0
 IsOutcomeOf contents words (Run steps) o = (elf : List ℕ) × (input : List ℕ) × (text : List ℕ) × (words ≡ codes "run" ∷ elf ∷ input ∷ text ∷ []) × IsRunOutcome contents elf input steps o
@@ -210,6 +231,7 @@ IsOutcomeOf contents words (MakeWitness steps workers) o =
 IsOutcomeOf contents words Check o = (elf : List ℕ) × (input : List ℕ) × (tables : List ℕ) × (words ≡ codes "check" ∷ elf ∷ input ∷ tables ∷ []) × IsCheckOutcome contents elf input tables o
 IsOutcomeOf contents words Pil o = (pil : List ℕ) × (tables : List ℕ) × (words ≡ codes "pil" ∷ pil ∷ tables ∷ []) × IsPilOutcome contents pil tables o
 IsOutcomeOf contents words (Machine profile) o = IsMachineOutcome [] profile o
+IsOutcomeOf contents words (Demo number kind size) o = IsDemoOutcome [] number kind size o
 
 -- what the words come to: they read as a command, or as none
 abbrev pub IsOutcome : Contents → List (List ℕ) → Outcome → Type 0

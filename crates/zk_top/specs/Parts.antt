@@ -3,7 +3,9 @@ use Rattle.std.specs.Prelude.{◌≡◌, ◌⊎◌, ℕ, ◌<◌, ◌≤◌, ◌
 use Rattle.std.specs.declared.alloc.Global.{Global}
 use Rattle.host_io.specs.World.{World, Asked, Opened, Created}
 use Rattle.rv_model.specs.Image.{Img}
-use Rattle.rv_model.specs.Run.{end_within}
+use Rattle.rv_model.specs.Run.{end_within, Halted, RunsTo}
+use Rattle.rv_model.specs.declared.answer.Public.{Public}
+use Rattle.run_tables.specs.Sequential.{sequential_witness}
 use Rattle.elf_load.specs.Loads.{Loads}
 use Rattle.elf_load.specs.Refusal.{Refused}
 use Rattle.elf_load.specs.declared.error.ElfErr.{ElfErr}
@@ -123,6 +125,14 @@ IsMaking image steps (Ok made) = (names : List Asked) (tables : List ℕ) → of
 IsMaking image steps (Err statuses.NoMemory) = Unit {0}
 IsMaking image steps (Err statuses.HostFault) = ⊥
 IsMaking image steps (Err status) = (names : List Asked) (tables : List ℕ) → of_making names tables image steps (end_within image steps) ≡ refused names status
+
+-- the image's run halts within fewer than 2^32 steps
+abbrev pub Halts : Img → Type 0
+Halts image = (n : ℕ) × (public : Public) × (n < 2 ^ 32) × RunsTo image n public
+
+-- its number of steps, its public output and its tables
+abbrev pub IsHalted : Img → Made → Type 0
+IsHalted image made = (end_within image 4294967295 ≡ Halted made.steps made.public) × (made.witness ≡ sequential_witness image made.steps made.public)
 
 -- the work before the tables are written led to them, or stopped
 abbrev pub LeadsToTables : List Asked → List ℕ → Outcome → Result Made Status → World → World → Type 0

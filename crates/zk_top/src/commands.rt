@@ -8,6 +8,7 @@ ghost use Rattle.zk_top.specs.Ends.{Ends};
 ghost use Rattle.zk_top.specs.Headline.{Headline};
 
 use crate::checking::pil_call;
+use crate::demo::demo_call;
 use crate::ending::refuse;
 use crate::judging::check_call;
 use crate::laws::headline;
@@ -65,6 +66,7 @@ pub fn top<H: Host>(alloc: Global, words: &[String], host: &mut H) -> Status
             _ => unreachable!(),
         },
         Some(Command::Machine { profile }) => print_call(alloc, host, profile),
+        Some(Command::Demo { number, kind, size }) => demo_call(alloc, host, number, kind, size),
         None => refuse(alloc, host, Status::BadWords),
     }
 }

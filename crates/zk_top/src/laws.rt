@@ -1,9 +1,13 @@
 //! What holds of every outcome.
 ghost use Rattle.std.specs.Prelude.{◌≡◌, ℕ, List};
 ghost use Rattle.zk_top.specs.Headline.{Headline};
-ghost use Rattle.zk_top.specs.Outcome.{Outcome, Contents, AreBytes, IsRunOutcome, IsWitnessOutcome, IsCheckOutcome, IsPilOutcome, IsOutcome};
+ghost use Rattle.zk_top.specs.Outcome.{Outcome, Contents, AreBytes, IsRunOutcome, IsWitnessOutcome, IsCheckOutcome, IsPilOutcome, IsDemoOutcome, IsOutcome};
+ghost use Rattle.host_io.specs.World.{Asked};
+ghost use Rattle.demo_program.specs.Demo.{IsSize};
+ghost use Rattle.demo_program.specs.declared.kind.DemoKind.{DemoKind};
 
 use bus_check::one_verdict;
+use demo_program::{demo_runs, demo_words};
 use elf_load::{input_apart, loaded_is_loadable, one_answer};
 use run_accepted::completeness;
 use rv_model::run_law;
@@ -21,6 +25,7 @@ pub fn one_outcome()
     one_witness();
     one_check();
     one_pil();
+    one_demo();
 }
 
 /// The headline, of what commands come to (specs/Headline.antt). The call computes nothing.
@@ -64,6 +69,19 @@ fn one_check()
     one_verdict();
     one_text();
     reads_or_fails();
+}
+
+// Whatever program `demo` makes, it comes to one outcome and no other.
+fn one_demo()
+    ensures some { (names : List Asked) (number : ℕ) (kind : DemoKind) (size : ℕ) → IsSize size → (o : Outcome) × IsDemoOutcome names number kind size o }
+    ensures one { (names : List Asked) (number : ℕ) (kind : DemoKind) (size : ℕ) (o p : Outcome) → IsDemoOutcome names number kind size o → IsDemoOutcome names number kind size p → o ≡ p }
+{
+    demo_runs();
+    demo_words();
+    one_answer();
+    loaded_is_loadable();
+    run_law();
+    completeness();
 }
 
 // Whatever bytes the files hold, `pil` comes to one outcome and no other.

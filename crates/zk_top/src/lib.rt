@@ -3,6 +3,7 @@
 
 mod checking;
 mod commands;
+mod demo;
 mod emulation;
 mod ending;
 mod files;
@@ -20,6 +21,8 @@ mod writing;
 
 pub use checking::pil_call;
 pub use commands::top;
+pub use demo::demo_call;
+pub use demo_program::demo_elf;
 pub use judging::check_call;
 pub use laws::{headline, one_outcome};
 pub use printing::print_call;

@@ -1,18 +1,22 @@
 //! The reports of commands that did their work.
-ghost use Rattle.std.specs.Prelude.{◌≡◌, ◌++◌, Some, All, map, flat_map, IfOk, OnOk};
+ghost use Rattle.std.specs.Prelude.{◌≡◌, ◌==◌, ◌++◌, Some, All, map, flat_map, count_by, IfOk, OnOk};
 ghost use Rattle.pil_ast.specs.Tree.{line, namespaces};
 ghost use Rattle.pil_ast.specs.Columns.{Fits};
 ghost use Rattle.pil_ast.specs.Sound.{IsSound};
 ghost use Rattle.pil_ast.specs.Reading.{IsPlaceIn};
 ghost use Rattle.pil_ast.specs.Value.{value_of_place};
-ghost use Rattle.zk_top.specs.Outcome.{public_text, run_report, check_report, public_line, pil_report};
+ghost use Rattle.zk_top.specs.Outcome.{public_text, run_report, check_report, demo_report, instances_text, public_line, pil_report};
 ghost use Rattle.zk_top.specs.Parts.{IsPublicIn};
 
-use gold::Fe;
+use gold::{Fe, Table, Witness};
 use itoa::Buffer;
 use pil_ast::{Columns, Item, Pil, Place};
 use rv_model::Public;
 use std::alloc::{AllocError, Global};
+use zk_layout::Air;
+
+/// The number of airs.
+const AIRS: u32 = Air::ALL.len() as u32;
 
 /// The number of steps, the exit code, and the output window in hexadecimal digits, a line each.
 pub fn run_text(alloc: Global, steps: u32, public: &Public) -> Result<Vec<u8>, AllocError>
@@ -32,6 +36,42 @@ pub fn check_text(alloc: Global, public: &Public) -> Result<Vec<u8>, AllocError>
     let mut text = Vec::from_slice(alloc, b"accepted\n")?;
     push_public_output(alloc, public, &mut text)?;
     Ok(text)
+}
+
+/// The report of a run, how many tables there are of each air, and the line `accepted`.
+pub fn demo_text(
+    alloc: Global,
+    steps: u32,
+    public: &Public,
+    witness: &Witness,
+) -> Result<Vec<u8>, AllocError>
+    ensures { IfOk result (λ text. text.items ≡ demo_report steps public.now witness.now) }
+{
+    let mut text = run_text(alloc, steps, public)?;
+    push_instances(witness, &mut text)?;
+    text.extend_from_slice(b"accepted\n")?;
+    Ok(text)
+}
+
+// How many of the tables are of an air.
+fn tables_of_air(tables: &[Table], air: u32) -> usize
+    ensures { result ≡ count_by (λ t. t.air == air) tables.now }
+{
+    tables.iter().filter(|t| t.air == air).count()
+}
+
+// Writes the line that counts the tables of each air.
+fn push_instances(witness: &Witness, text: &mut Vec<u8>) -> Result<(), AllocError>
+    ensures { OnOk result (text.new.items ≡ text.old.items ++ instances_text witness.now) }
+{
+    text.extend_from_slice(b"instances")?;
+    for air in 0..AIRS {
+        text.push(b' ')?;
+        let count = tables_of_air(witness.tables.as_slice(), air);
+        text.extend_from_slice(Buffer::new().format(count).as_bytes())?;
+    }
+    text.push(b'\n')?;
+    Ok(())
 }
 
 // Writes the lines of what is published.

@@ -23,8 +23,8 @@ use std::alloc::Global;
 use std::sync::Arc;
 use zk_words::Status;
 
-// An image can be run. The call computes nothing.
-fn can_run(image: &Image)
+/// An image can be run. The call computes nothing.
+pub(crate) fn can_run(image: &Image)
     ensures { IsLoadable image.now }
 {
     let _entry = image.entry;

@@ -1,13 +1,16 @@
 -- Whether words read as a command.
 use Rattle.std.proofs.Common.{◌≡◌, ◌⊎◌, inl, inr, ℕ, zero, suc, ◌+◌, ◌<◌, ◌≤◌, ◌^◌, Bool, true, false, eqb, leb, List, [], ◌∷◌, refl, sym, ap, ◌∙◌, subst, arith}
 use Rattle.std.specs.Prelude.{codes, decimal}
+use Rattle.std.proofs.Math.ListN.{get_or}
 use Rattle.std.proofs.lemmas.Bool.{eqb-true, eqb-false, leb-true, leb-false}
 use Rattle.std.proofs.lemmas.Fmt.{decimal_injective}
 use Rattle.gold.specs.declared.shapes.Profile.TheVariants.{Small, Wide}
 use Rattle.zk_words.specs.declared.command.Command.{Command}
-use Rattle.zk_words.specs.declared.command.Command.TheVariants.{Run, Witness, Check, Pil, Machine}
+use Rattle.zk_words.specs.declared.command.Command.TheVariants.{Run, Witness, Check, Pil, Machine, Demo}
 use Rattle.zk_words.specs.declared.command.TheConstants.{MOST_WORKERS}
-use Rattle.zk_words.specs.Words.{IsNumber, Reads}
+use Rattle.demo_program.specs.declared.kind.DemoKind.{DemoKind}
+use Rattle.demo_program.specs.declared.kind.DemoKind.TheVariants.{Alu, Mul, Mem}
+use Rattle.zk_words.specs.Words.{IsNumber, kind_word, Reads}
 
 -- ---- equal numbers, equal texts
 
@@ -60,6 +63,12 @@ steps_number text = has_number 1 (2 ^ 32) text (omega arith) (below text (2 ^ 32
 workers_number : (text : List ℕ) → HasNumber 0 (MOST_WORKERS + 1) text
 workers_number text = has_number 0 (MOST_WORKERS + 1) text (omega arith) (below text (MOST_WORKERS + 1))
 
+draw_number : (text : List ℕ) → HasNumber 0 (2 ^ 64) text
+draw_number text = has_number 0 (2 ^ 64) text (omega arith) (below text (2 ^ 64))
+
+size_number : (text : List ℕ) → HasNumber 1 100001 text
+size_number text = has_number 1 100001 text (omega arith) (below text 100001)
+
 -- ---- commands, by how many words they have
 
 abbrev Decided : List (List ℕ) → Type 0
@@ -72,6 +81,7 @@ none Check h = cc
 none Pil h = cc
 none (Machine Small) h = cc
 none (Machine Wide) h = cc
+none (Demo n kind m) h = cc
 
 not_one : (a : List ℕ) → (a ≡ codes "machine" → ⊥) → (command : Command) → Reads (a ∷ []) command → ⊥
 not_one a ne (Run n) h = cc
@@ -80,6 +90,7 @@ not_one a ne Check h = cc
 not_one a ne Pil h = cc
 not_one a ne (Machine Small) h = ne cc
 not_one a ne (Machine Wide) h = cc
+not_one a ne (Demo n kind m) h = cc
 
 of_one : (a : List ℕ) → (a ≡ codes "machine") ⊎ (a ≡ codes "machine" → ⊥) → Decided (a ∷ [])
 of_one a (inl e) = inl (Machine Small, ap (λ (x : List ℕ). x ∷ []) e)
@@ -95,6 +106,7 @@ not_two a b ne (Machine Wide) h =
     let first : a ≡ codes "machine" = cc in
     let second : b ≡ codes "wide" = cc in
     ne first second
+not_two a b ne (Demo n kind m) h = cc
 
 of_two : (a b : List ℕ) → (a ≡ codes "machine") ⊎ (a ≡ codes "machine" → ⊥) → (b ≡ codes "wide") ⊎ (b ≡ codes "wide" → ⊥) → Decided (a ∷ b ∷ [])
 of_two a b (inl e) (inl f) = inl (Machine Wide, ap (λ (x : List ℕ). x ∷ b ∷ []) e ∙ ap (λ (x : List ℕ). codes "machine" ∷ x ∷ []) f)
@@ -108,27 +120,83 @@ not_three a b c ne Check h = cc
 not_three a b c ne Pil h = ne cc
 not_three a b c ne (Machine Small) h = cc
 not_three a b c ne (Machine Wide) h = cc
+not_three a b c ne (Demo n kind m) h = cc
 
 of_three : (a b c : List ℕ) → (a ≡ codes "pil") ⊎ (a ≡ codes "pil" → ⊥) → Decided (a ∷ b ∷ c ∷ [])
 of_three a b c (inl e) = inl (Pil, (b, c, ap (λ (x : List ℕ). x ∷ b ∷ c ∷ []) e))
 of_three a b c (inr ne) = inr (not_three a b c ne)
 
-not_four : (a b c d : List ℕ) → ((a ≡ codes "run") → (n : ℕ) → IsNumber 1 (2 ^ 32) d n → ⊥) → (a ≡ codes "check" → ⊥) → (command : Command) → Reads (a ∷ b ∷ c ∷ d ∷ []) command → ⊥
-not_four a b c d run check (Run n) h =
+-- the word of a kind, and no other kind's
+
+abbrev HasKind : List ℕ → Type 0
+HasKind text = ((kind : DemoKind) × (text ≡ kind_word kind)) ⊎ ((kind : DemoKind) → text ≡ kind_word kind → ⊥)
+
+of_kind : (text : List ℕ) → (text ≡ codes "alu") ⊎ (text ≡ codes "alu" → ⊥) → (text ≡ codes "mul") ⊎ (text ≡ codes "mul" → ⊥) → (text ≡ codes "mem") ⊎ (text ≡ codes "mem" → ⊥) → HasKind text
+of_kind text (inl e) mul mem = inl (Alu, e)
+of_kind text (inr ne) (inl e) mem = inl (Mul, e)
+of_kind text (inr ne) (inr nf) (inl e) = inl (Mem, e)
+of_kind text (inr ne) (inr nf) (inr ng) = inr never
+  where
+    never : (kind : DemoKind) → text ≡ kind_word kind → ⊥
+    never Alu h = ne h
+    never Mul h = nf h
+    never Mem h = ng h
+
+has_kind : (text : List ℕ) → HasKind text
+has_kind text = of_kind text (eq_texts text (codes "alu")) (eq_texts text (codes "mul")) (eq_texts text (codes "mem"))
+
+one_kind : (j k : DemoKind) → kind_word j ≡ kind_word k → j ≡ k
+one_kind Alu Alu e = refl
+one_kind Alu Mul e = let clash : 97 ≡ 109 = ap (λ (text : List ℕ). get_or text 0 0) e in absurd (omega (arith, clash))
+one_kind Alu Mem e = let clash : 97 ≡ 109 = ap (λ (text : List ℕ). get_or text 0 0) e in absurd (omega (arith, clash))
+one_kind Mul Alu e = let clash : 109 ≡ 97 = ap (λ (text : List ℕ). get_or text 0 0) e in absurd (omega (arith, clash))
+one_kind Mul Mul e = refl
+one_kind Mul Mem e = let clash : 117 ≡ 101 = ap (λ (text : List ℕ). get_or text 1 0) e in absurd (omega (arith, clash))
+one_kind Mem Alu e = let clash : 109 ≡ 97 = ap (λ (text : List ℕ). get_or text 0 0) e in absurd (omega (arith, clash))
+one_kind Mem Mul e = let clash : 101 ≡ 117 = ap (λ (text : List ℕ). get_or text 1 0) e in absurd (omega (arith, clash))
+one_kind Mem Mem e = refl
+
+-- the last three words of `demo`
+abbrev Draws : List ℕ → List ℕ → List ℕ → Type 0
+Draws b c d = (n : ℕ) × (kind : DemoKind) × (m : ℕ) × IsNumber 0 (2 ^ 64) b n × (c ≡ kind_word kind) × IsNumber 1 100001 d m
+
+not_four : (a b c d : List ℕ) → ((a ≡ codes "run") → (n : ℕ) → IsNumber 1 (2 ^ 32) d n → ⊥) → (a ≡ codes "check" → ⊥) → ((a ≡ codes "demo") → Draws b c d → ⊥) → (command : Command) → Reads (a ∷ b ∷ c ∷ d ∷ []) command → ⊥
+not_four a b c d run check demo (Run n) h =
     let first : a ≡ codes "run" = cc in
     let last : h.2 ≡ d = cc in
     run first n (subst (λ (t : List ℕ). IsNumber 1 (2 ^ 32) t n) last h.4)
-not_four a b c d run check (Witness n m) h = cc
-not_four a b c d run check Check h = check cc
-not_four a b c d run check Pil h = cc
-not_four a b c d run check (Machine Small) h = cc
-not_four a b c d run check (Machine Wide) h = cc
+not_four a b c d run check demo (Witness n m) h = cc
+not_four a b c d run check demo Check h = check cc
+not_four a b c d run check demo Pil h = cc
+not_four a b c d run check demo (Machine Small) h = cc
+not_four a b c d run check demo (Machine Wide) h = cc
+not_four a b c d run check demo (Demo n kind m) h =
+    let first : a ≡ codes "demo" = cc in
+    let text : h.0 ≡ b = cc in
+    let named : c ≡ kind_word kind = cc in
+    let last : h.1 ≡ d = cc in
+    demo first (n, kind, m, subst (λ (t : List ℕ). IsNumber 0 (2 ^ 64) t n) text h.3, named, subst (λ (t : List ℕ). IsNumber 1 100001 t m) last h.4)
 
-of_four : (a b c d : List ℕ) → (a ≡ codes "run") ⊎ (a ≡ codes "run" → ⊥) → (a ≡ codes "check") ⊎ (a ≡ codes "check" → ⊥) → HasNumber 1 (2 ^ 32) d → Decided (a ∷ b ∷ c ∷ d ∷ [])
-of_four a b c d run (inl e) number = inl (Check, (b, c, d, ap (λ (x : List ℕ). x ∷ b ∷ c ∷ d ∷ []) e))
-of_four a b c d (inl e) (inr not_check) (inl n) = inl (Run n.0, (b, c, d, ap (λ (x : List ℕ). x ∷ b ∷ c ∷ d ∷ []) e, n.1))
-of_four a b c d (inl e) (inr not_check) (inr never) = inr (not_four a b c d (λ first n is. never n is) not_check)
-of_four a b c d (inr ne) (inr not_check) number = inr (not_four a b c d (λ first n is. ne first) not_check)
+run_four : (a b c d : List ℕ) → a ≡ codes "run" → HasNumber 1 (2 ^ 32) d → Decided (a ∷ b ∷ c ∷ d ∷ [])
+run_four a b c d e (inl n) = inl (Run n.0, (b, c, d, ap (λ (x : List ℕ). x ∷ b ∷ c ∷ d ∷ []) e, n.1))
+run_four a b c d e (inr never) = inr (not_four a b c d (λ first n is. never n is) (λ first. cc) (λ first is. cc))
+
+has_draws : (b c d : List ℕ) → HasNumber 0 (2 ^ 64) b → HasKind c → HasNumber 1 100001 d → Draws b c d ⊎ (Draws b c d → ⊥)
+has_draws b c d (inl n) (inl kind) (inl m) = inl (n.0, kind.0, m.0, n.1, kind.1, m.1)
+has_draws b c d (inr never) kind m = inr (λ h. never h.0 h.3)
+has_draws b c d (inl n) (inr never) m = inr (λ h. never h.1 h.4)
+has_draws b c d (inl n) (inl kind) (inr never) = inr (λ h. never h.2 h.5)
+
+demo_four : (a b c d : List ℕ) → a ≡ codes "demo" → Draws b c d ⊎ (Draws b c d → ⊥) → Decided (a ∷ b ∷ c ∷ d ∷ [])
+demo_four a b c d e (inl (n, kind, m, text, named, last)) =
+    inl (Demo n kind m, (b, d, ap (λ (x : List ℕ). x ∷ b ∷ c ∷ d ∷ []) e ∙ ap (λ (x : List ℕ). codes "demo" ∷ b ∷ x ∷ d ∷ []) named, text, last))
+demo_four a b c d e (inr never) = inr (not_four a b c d (λ first n is. cc) (λ first. cc) (λ first is. never is))
+
+of_four : (a b c d : List ℕ) → (a ≡ codes "run") ⊎ (a ≡ codes "run" → ⊥) → (a ≡ codes "check") ⊎ (a ≡ codes "check" → ⊥) → (a ≡ codes "demo") ⊎ (a ≡ codes "demo" → ⊥) → Decided (a ∷ b ∷ c ∷ d ∷ [])
+of_four a b c d (inl e) check demo = run_four a b c d e (steps_number d)
+of_four a b c d (inr not_run) (inl e) demo = inl (Check, (b, c, d, ap (λ (x : List ℕ). x ∷ b ∷ c ∷ d ∷ []) e))
+of_four a b c d (inr not_run) (inr not_check) (inl e) = demo_four a b c d e (has_draws b c d (draw_number b) (has_kind c) (size_number d))
+of_four a b c d (inr not_run) (inr not_check) (inr not_demo) = inr (not_four a b c d (λ first n is. not_run first) not_check (λ first is. not_demo first))
 
 not_six : (a b c d s w : List ℕ) → ((a ≡ codes "witness") → (n m : ℕ) → IsNumber 1 (2 ^ 32) s n → IsNumber 0 (MOST_WORKERS + 1) w m → ⊥) → (command : Command) → Reads (a ∷ b ∷ c ∷ d ∷ s ∷ w ∷ []) command → ⊥
 not_six a b c d s w never (Run n) h = cc
@@ -141,6 +209,7 @@ not_six a b c d s w never Check h = cc
 not_six a b c d s w never Pil h = cc
 not_six a b c d s w never (Machine Small) h = cc
 not_six a b c d s w never (Machine Wide) h = cc
+not_six a b c d s w never (Demo n kind m) h = cc
 
 of_six : (a b c d s w : List ℕ) → (a ≡ codes "witness") ⊎ (a ≡ codes "witness" → ⊥) → HasNumber 1 (2 ^ 32) s → HasNumber 0 (MOST_WORKERS + 1) w → Decided (a ∷ b ∷ c ∷ d ∷ s ∷ w ∷ [])
 of_six a b c d s w (inr ne) n m = inr (not_six a b c d s w (λ first k l ks ls. ne first))
@@ -155,6 +224,7 @@ not_five a b c d e Check h = cc
 not_five a b c d e Pil h = cc
 not_five a b c d e (Machine Small) h = cc
 not_five a b c d e (Machine Wide) h = cc
+not_five a b c d e (Demo n kind m) h = cc
 
 not_more : (a b c d e f g : List ℕ) (ws : List (List ℕ)) (command : Command) → Reads (a ∷ b ∷ c ∷ d ∷ e ∷ f ∷ g ∷ ws) command → ⊥
 not_more a b c d e f g ws (Run n) h = cc
@@ -163,13 +233,14 @@ not_more a b c d e f g ws Check h = cc
 not_more a b c d e f g ws Pil h = cc
 not_more a b c d e f g ws (Machine Small) h = cc
 not_more a b c d e f g ws (Machine Wide) h = cc
+not_more a b c d e f g ws (Demo n kind m) h = cc
 
 pub decided : (words : List (List ℕ)) → ((command : Command) × Reads words command) ⊎ ((command : Command) → Reads words command → ⊥)
 decided [] = inr none
 decided (a ∷ []) = of_one a (eq_texts a (codes "machine"))
 decided (a ∷ b ∷ []) = of_two a b (eq_texts a (codes "machine")) (eq_texts b (codes "wide"))
 decided (a ∷ b ∷ c ∷ []) = of_three a b c (eq_texts a (codes "pil"))
-decided (a ∷ b ∷ c ∷ d ∷ []) = of_four a b c d (eq_texts a (codes "run")) (eq_texts a (codes "check")) (steps_number d)
+decided (a ∷ b ∷ c ∷ d ∷ []) = of_four a b c d (eq_texts a (codes "run")) (eq_texts a (codes "check")) (eq_texts a (codes "demo"))
 decided (a ∷ b ∷ c ∷ d ∷ e ∷ []) = inr (not_five a b c d e)
 decided (a ∷ b ∷ c ∷ d ∷ e ∷ f ∷ []) = of_six a b c d e f (eq_texts a (codes "witness")) (steps_number e) (workers_number f)
 decided (a ∷ b ∷ c ∷ d ∷ e ∷ f ∷ g ∷ ws) = inr (not_more a b c d e f g ws)
@@ -185,6 +256,7 @@ one words (Run s) Check h k = cc
 one words (Run s) Pil h k = cc
 one words (Run s) (Machine Small) h k = cc
 one words (Run s) (Machine Wide) h k = cc
+one words (Run s) (Demo t other l) h k = cc
 one words (Witness s m) (Run t) h k = cc
 one words (Witness s m) (Witness t l) h k =
     let steps : h.3 ≡ k.3 = cc in
@@ -195,27 +267,45 @@ one words (Witness s m) Check h k = cc
 one words (Witness s m) Pil h k = cc
 one words (Witness s m) (Machine Small) h k = cc
 one words (Witness s m) (Machine Wide) h k = cc
+one words (Witness s m) (Demo t other l) h k = cc
 one words Check (Run t) h k = cc
 one words Check (Witness t m) h k = cc
 one words Check Check h k = refl
 one words Check Pil h k = cc
 one words Check (Machine Small) h k = cc
 one words Check (Machine Wide) h k = cc
+one words Check (Demo t other l) h k = cc
 one words Pil (Run t) h k = cc
 one words Pil (Witness t m) h k = cc
 one words Pil Check h k = cc
 one words Pil Pil h k = refl
 one words Pil (Machine Small) h k = cc
 one words Pil (Machine Wide) h k = cc
+one words Pil (Demo t other l) h k = cc
 one words (Machine Small) (Run t) h k = cc
 one words (Machine Small) (Witness t m) h k = cc
 one words (Machine Small) Check h k = cc
 one words (Machine Small) Pil h k = cc
 one words (Machine Small) (Machine Small) h k = refl
 one words (Machine Small) (Machine Wide) h k = cc
+one words (Machine Small) (Demo t other l) h k = cc
 one words (Machine Wide) (Run t) h k = cc
 one words (Machine Wide) (Witness t m) h k = cc
 one words (Machine Wide) Check h k = cc
 one words (Machine Wide) Pil h k = cc
 one words (Machine Wide) (Machine Small) h k = cc
 one words (Machine Wide) (Machine Wide) h k = refl
+one words (Machine Wide) (Demo t other l) h k = cc
+one words (Demo s kind m) (Run t) h k = cc
+one words (Demo s kind m) (Witness t l) h k = cc
+one words (Demo s kind m) Check h k = cc
+one words (Demo s kind m) Pil h k = cc
+one words (Demo s kind m) (Machine Small) h k = cc
+one words (Demo s kind m) (Machine Wide) h k = cc
+one words (Demo s kind m) (Demo t other l) h k =
+    let text : h.0 ≡ k.0 = cc in
+    let named : kind_word kind ≡ kind_word other = cc in
+    let last : h.1 ≡ k.1 = cc in
+    ap (λ (n : ℕ). Demo n kind m) (one_number 0 (2 ^ 64) h.0 s t (omega arith) h.3 k.3.2 (text ∙ k.3.0))
+    ∙ ap (λ (other : DemoKind). Demo t other m) (one_kind kind other named)
+    ∙ ap (λ (n : ℕ). Demo t other n) (one_number 1 100001 h.1 m l (omega arith) h.4 k.4.2 (last ∙ k.4.0))

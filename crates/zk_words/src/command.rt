@@ -1,13 +1,18 @@
 //! The words of the command line.
-ghost use Rattle.std.specs.Prelude.{◌≡◌, ◌⊎◌, ℕ, ◌+◌, ◌<◌, ◌≤◌, ◌^◌, List, [], ◌∷◌, IfSome, Some, decimal};
-ghost use Rattle.zk_words.specs.Words.{Reads, texts, IsNumber};
+ghost use Rattle.std.specs.Prelude.{◌≡◌, ◌⊎◌, ℕ, ◌+◌, ◌<◌, ◌≤◌, ◌^◌, List, [], ◌∷◌, IfSome, Some, codes, decimal};
+ghost use Rattle.demo_program.specs.declared.kind.DemoKind.{DemoKind as Kind};
+ghost use Rattle.zk_words.specs.Words.{Reads, texts, kind_word, IsNumber};
 ghost use Rattle.zk_words.specs.declared.command.Command.{Command};
 
+use demo_program::DemoKind;
 use gold::Profile;
 use itoa::Buffer;
 
 /// At most so many workers.
 pub const MOST_WORKERS: u32 = 0;
+
+/// A demo program draws at most so many instructions.
+const MOST_DRAWN: u32 = 100_000;
 
 /// What the words ask for. A command's file names are the words at their places.
 #[derive(Clone, Copy, Debug, PartialEq, Eq)]
@@ -22,6 +27,12 @@ pub enum Command {
     Pil,
     /// `machine` is Small's, `machine wide` is Wide's.
     Machine { profile: Profile },
+    /// `demo NUMBER KIND SIZE`
+    Demo {
+        number: u64,
+        kind: DemoKind,
+        size: u32,
+    },
 }
 
 // The number that the text is the decimal form of.
@@ -68,10 +79,38 @@ fn of_two(first: &str, second: &str) -> Option<Command>
     }
 }
 
-// The command of four words, of which these are the first and the last.
-fn of_four(first: &str, last: &str) -> Option<Command>
-    ensures found { (b c : List ℕ) → IfSome result (Reads (first.now ∷ b ∷ c ∷ last.now ∷ [])) }
-    ensures only { (b c : List ℕ) (command : Command) → Reads (first.now ∷ b ∷ c ∷ last.now ∷ []) command → result ≡ Some command }
+// The kind of demo program that a word names.
+fn kind_of(text: &str) -> Option<DemoKind>
+    ensures found { IfSome result (λ kind. text.now ≡ kind_word kind) }
+    ensures only { (kind : Kind) → text.now ≡ kind_word kind → result ≡ Some kind }
+{
+    match text {
+        "alu" => Some(DemoKind::Alu),
+        "mul" => Some(DemoKind::Mul),
+        "mem" => Some(DemoKind::Mem),
+        _ => None,
+    }
+}
+
+// The command of four words, of which the first is `demo`.
+fn of_demo(text: &str, kind: &str, size: &str) -> Option<Command>
+    ensures found { IfSome result (Reads (codes "demo" ∷ text.now ∷ kind.now ∷ size.now ∷ [])) }
+    ensures only { (command : Command) → Reads (codes "demo" ∷ text.now ∷ kind.now ∷ size.now ∷ []) command → result ≡ Some command }
+{
+    match (
+        number(text),
+        kind_of(kind),
+        number_from(1, MOST_DRAWN, size),
+    ) {
+        (Some(number), Some(kind), Some(size)) => Some(Command::Demo { number, kind, size }),
+        _ => None,
+    }
+}
+
+// The command of four words.
+fn of_four(first: &str, second: &str, third: &str, last: &str) -> Option<Command>
+    ensures found { IfSome result (Reads (first.now ∷ second.now ∷ third.now ∷ last.now ∷ [])) }
+    ensures only { (command : Command) → Reads (first.now ∷ second.now ∷ third.now ∷ last.now ∷ []) command → result ≡ Some command }
 {
     match first {
         "run" => match number_from(1, u32::MAX, last) {
@@ -79,6 +118,7 @@ fn of_four(first: &str, last: &str) -> Option<Command>
             None => None,
         },
         "check" => Some(Command::Check),
+        "demo" => of_demo(second, third, last),
         _ => None,
     }
 }
@@ -111,7 +151,12 @@ pub fn read_words(words: &[String]) -> Option<Command>
         }),
         [first, second] => of_two(first.as_str(), second.as_str()),
         [name, _, _] if name.as_str() == "pil" => Some(Command::Pil),
-        [first, _, _, last] => of_four(first.as_str(), last.as_str()),
+        [first, second, third, last] => of_four(
+            first.as_str(),
+            second.as_str(),
+            third.as_str(),
+            last.as_str(),
+        ),
         [first, _, _, _, steps, workers] => {
             of_six(first.as_str(), steps.as_str(), workers.as_str())
         }
@@ -172,6 +217,22 @@ mod tests {
                 },
             ),
             (
+                "demo|0|alu|1",
+                Command::Demo {
+                    number: 0,
+                    kind: DemoKind::Alu,
+                    size: 1,
+                },
+            ),
+            (
+                "demo|18446744073709551615|mem|100000",
+                Command::Demo {
+                    number: u64::MAX,
+                    kind: DemoKind::Mem,
+                    size: 100_000,
+                },
+            ),
+            (
                 "witness|a|b|c|20|0",
                 Command::Witness {
                     steps: 20,
@@ -209,6 +270,12 @@ mod tests {
             "witness|a|b|c|20|1",
             "witness|a|b|c|0|0",
             "witness|a|b|c|20|0|x",
+            "demo|1|mul|0",
+            "demo|1|mul|100001",
+            "demo|01|mul|1",
+            "demo|18446744073709551616|mul|1",
+            "demo|1|MUL|1",
+            "demo|1|mul",
         ] {
             let words = words(alloc, line)?;
             assert_eq!(rt; read_words(&words), None, "at {line}");

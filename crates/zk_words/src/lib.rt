@@ -6,5 +6,6 @@ mod line;
 mod status;
 
 pub use command::{Command, MOST_WORKERS, one_command, read_words};
+pub use demo_program::DemoKind;
 pub use line::status_line;
 pub use status::{Status, Which};

@@ -13,7 +13,7 @@ returns c =
       check = λ contents elf input tables file image o given there is.
           judges c.one_verdict.ensures.not_both c.one_verdict.ensures.one c.one_text.ensures.witness c.reads_or_fails.ensures.not_both (check_names elf input tables) image file o
           (on_tables (λ file. c.one_answer.ensures.one_image file []) (λ file. c.one_answer.ensures.not_both file []) contents elf input tables file image o given there (check_outcome c.one_command.ensures.one contents elf input tables o is));
-      among = λ contents elf input image n public bytes given few runs. c.completeness.ensures image n public (program_loadable c.loaded_is_loadable.ensures c.input_apart.ensures contents elf input image bytes given) few runs;
+      among = λ contents elf input image n public bytes given few runs. c.completeness.ensures.accepted image n public (program_loadable c.loaded_is_loadable.ensures c.input_apart.ensures contents elf input image bytes given) few runs;
       carried = λ contents elf input tables file image o bytes given there is done.
           let on = on_tables (λ file. c.one_answer.ensures.one_image file []) (λ file. c.one_answer.ensures.not_both file []) contents elf input tables file image o given there (check_outcome c.one_command.ensures.one contents elf input tables o is) in
           let told = done_tables c.one_verdict.ensures.not_both c.one_verdict.ensures.one c.one_text.ensures.witness c.reads_or_fails.ensures.not_both (check_names elf input tables) image file o on done in

@@ -1,9 +1,11 @@
-use Rattle.std.proofs.Common.{◌≡◌, ◌⊎◌, inl, inr, ℕ, List, [], refl, sym, ◌∙◌, subst}
+use Rattle.std.proofs.Common.{◌≡◌, ◌⊎◌, inl, inr, ℕ, List, [], refl, sym, ◌∙◌, subst, arith}
+use Rattle.std.specs.Prelude.{codes}
 use Rattle.pil_print.specs.Printed.{printed}
 use Rattle.machine_text.specs.Machine.{machine}
-use Rattle.zk_words.specs.Words.{Reads}
+use Rattle.zk_words.specs.Words.{IsNumber, Reads}
+use Rattle.gold.specs.declared.shapes.Profile.TheVariants.{Small, Wide}
 use Rattle.zk_words.specs.declared.command.Command.{Command}
-use Rattle.zk_words.specs.declared.command.Command.TheVariants.{Run, Witness, Check, Pil, Machine}
+use Rattle.zk_words.specs.declared.command.Command.TheVariants.{Run, Witness, Check, Pil, Machine, Demo}
 use Rattle.zk_words.specs.declared.status.Status.TheVariants as statuses
 use Rattle.zk_top.specs.Outcome.{Outcome, Contents, AreBytes, reporting, refused, IsRunOutcome, IsWitnessOutcome, IsCheckOutcome, IsPilOutcome, IsOutcomeOf, IsOutcome}
 use Rattle.zk_top.proofs.laws.one_outcome.Goals as goal
@@ -25,6 +27,9 @@ returns-clause-some c = λ contents words bytes. come contents words bytes (c.on
         let o = c.one_pil.ensures.some contents h.0 h.1 bytes in
         (o.0, (h.0, h.1, h.2, o.1))
     of_command contents words bytes (Machine profile) h = (reporting [] statuses.Done (printed (machine profile)), refl)
+    of_command contents words bytes (Demo number kind size) h =
+        let last : IsNumber 1 100001 h.1 size = h.4 in
+        c.one_demo.ensures.some [] number kind size (last.1, omega (arith, last.2))
 
     come : (contents : Contents) (words : List (List ℕ)) → AreBytes contents → ((command : Command) × Reads words command) ⊎ ((command : Command) → Reads words command → ⊥) → (o : Outcome) × IsOutcome contents words o
     come contents words bytes (inl h) =
@@ -63,6 +68,7 @@ returns-clause-one c = λ contents words o p h k. by contents words o p h k
         c.one_pil.ensures.one contents k.0 k.1 o p
         (subst (λ (name : List ℕ). IsPilOutcome contents name k.1 o) pil (subst (λ (name : List ℕ). IsPilOutcome contents h.0 name o) tables h.3)) k.3
     of_command contents words (Machine profile) o p h k = h ∙ sym k
+    of_command contents words (Demo number kind size) o p h k = c.one_demo.ensures.one [] number kind size o p h k
 
     by : (contents : Contents) (words : List (List ℕ)) (o p : Outcome) → IsOutcome contents words o → IsOutcome contents words p → o ≡ p
     by contents words o p (inl h) (inl k) =

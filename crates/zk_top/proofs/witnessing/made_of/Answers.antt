@@ -25,4 +25,4 @@ returns-in-Ok-sequential-clause-shaped c =
     let is : made.witness ≡ sequential_witness image made.steps made.public = subst (λ (i : Img). made.witness ≡ sequential_witness i made.steps made.public) c.in-Ok.ensures.ok c.in-Ok-sequential.ensures.1 in
     let runs = halted_runs image c.args.steps made.steps made.public (c.run_law.ensures image c.args.steps) ends in
     let few : made.steps < 2 ^ 32 = omega (arith, runs.0, c.ranges.steps.fits) in
-    subst (λ (w : Witness). HaveShape (machine_shape_of Two) w) (sym is) (c.completeness.ensures image made.steps made.public loadable few runs.1).0
+    subst (λ (w : Witness). HaveShape (machine_shape_of Two) w) (sym is) (c.completeness.ensures.accepted image made.steps made.public loadable few runs.1).0

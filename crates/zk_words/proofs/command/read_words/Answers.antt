@@ -21,14 +21,14 @@ three_texts (a ∷ b ∷ []) first least below at_0 = absurd (omega arith)
 three_texts (a ∷ b ∷ c ∷ []) first least below at_0 = (string_bytes b, string_bytes c, cc at_0)
 three_texts (a ∷ b ∷ c ∷ d ∷ ds) first least below at_0 = absurd (omega arith)
 
--- four words, of which the first and the last are these
-four_texts : (words : List (String Global)) (first last : String Global) → 4 ≤ length words → length words < 5 → first ≡ get_or words 0 first → last ≡ get_or words 3 last → (b : List ℕ) × (c : List ℕ) × (texts words ≡ string_bytes first ∷ b ∷ c ∷ string_bytes last ∷ [])
-four_texts [] first last least below at_0 at_3 = absurd (omega arith)
-four_texts (a ∷ []) first last least below at_0 at_3 = absurd (omega arith)
-four_texts (a ∷ b ∷ []) first last least below at_0 at_3 = absurd (omega arith)
-four_texts (a ∷ b ∷ c ∷ []) first last least below at_0 at_3 = absurd (omega arith)
-four_texts (a ∷ b ∷ c ∷ d ∷ []) first last least below at_0 at_3 = (string_bytes b, string_bytes c, cc (at_0, at_3))
-four_texts (a ∷ b ∷ c ∷ d ∷ e ∷ es) first last least below at_0 at_3 = absurd (omega arith)
+-- four words, each of which is this
+four_texts : (words : List (String Global)) (first second third last : String Global) → 4 ≤ length words → length words < 5 → first ≡ get_or words 0 first → second ≡ get_or words 1 second → third ≡ get_or words 2 third → last ≡ get_or words 3 last → texts words ≡ string_bytes first ∷ string_bytes second ∷ string_bytes third ∷ string_bytes last ∷ []
+four_texts [] first second third last least below at_0 at_1 at_2 at_3 = absurd (omega arith)
+four_texts (a ∷ []) first second third last least below at_0 at_1 at_2 at_3 = absurd (omega arith)
+four_texts (a ∷ b ∷ []) first second third last least below at_0 at_1 at_2 at_3 = absurd (omega arith)
+four_texts (a ∷ b ∷ c ∷ []) first second third last least below at_0 at_1 at_2 at_3 = absurd (omega arith)
+four_texts (a ∷ b ∷ c ∷ d ∷ []) first second third last least below at_0 at_1 at_2 at_3 = cc (at_0, at_1, at_2, at_3)
+four_texts (a ∷ b ∷ c ∷ d ∷ e ∷ es) first second third last least below at_0 at_1 at_2 at_3 = absurd (omega arith)
 
 -- six words, of which the first and the last two are these
 six_texts : (words : List (String Global)) (first steps workers : String Global) → 6 ≤ length words → length words < 7 → first ≡ get_or words 0 first → steps ≡ get_or words 4 steps → workers ≡ get_or words 5 workers
@@ -55,27 +55,20 @@ returns-in-len3-clause-found c =
     (parts.0, parts.1, cc (parts.2, name, c.as_str-then-words-lt4.ensures.value))
 
 -- the four words, as the call was given them
-abbrev Four : List (List ℕ) → List ℕ → List ℕ → Type 0
-Four words first last = (b : List ℕ) × (c : List ℕ) × (words ≡ first ∷ b ∷ c ∷ last ∷ [])
-
-four : (words : List (String Global)) (one two : String Global) (first last : List ℕ) → 4 ≤ length words → length words < 5 → one ≡ get_or words 0 one → two ≡ get_or words 3 two → first ≡ string_bytes one → last ≡ string_bytes two → Four (texts words) first last
-four words one two first last least below at_0 at_3 e f =
-    let parts = four_texts words one two least below at_0 at_3 in
-    (parts.0, parts.1, cc (parts.2, e, f))
-
-four_found : (words : List (List ℕ)) (first last : List ℕ) (result : Option Command) → Four words first last → ((b c : List ℕ) → IfSome result (Reads (first ∷ b ∷ c ∷ last ∷ []))) → IfSome result (Reads words)
-four_found words first last result parts found = subst (λ (w : List (List ℕ)). IfSome result (Reads w)) (sym parts.2) (found parts.0 parts.1)
+four : (words : List (String Global)) (a b c d : String Global) (first second third last : List ℕ) → 4 ≤ length words → length words < 5 → a ≡ get_or words 0 a → b ≡ get_or words 1 b → c ≡ get_or words 2 c → d ≡ get_or words 3 d → first ≡ string_bytes a → second ≡ string_bytes b → third ≡ string_bytes c → last ≡ string_bytes d → texts words ≡ first ∷ second ∷ third ∷ last ∷ []
+four words a b c d first second third last least below at_0 at_1 at_2 at_3 e f g h =
+    let parts = four_texts words a b c d least below at_0 at_1 at_2 at_3 in
+    cc (parts, e, f, g, h)
 
 pub returns-in-len4-clause-found : goal.returns-in-len4-clause-found
 returns-in-len4-clause-found c =
-    four_found (texts c.args.words.now) c.as_str-in-len4.result.now c.as_str-in-len4-2.result.now c.of_four.result
-    (four c.args.words.now c.first-item-then-words-lt5.result c.last-item.result c.as_str-in-len4.result.now c.as_str-in-len4-2.result.now c.in-len4.len_at_least c.in-len4.len_below c.first-item-then-words-lt5.is c.last-item.is c.as_str-in-len4.ensures.value c.as_str-in-len4-2.ensures.value)
-    c.of_four.ensures.found
+    let is = four c.args.words.now c.first-item-then-words-lt5.result c.second-item-then-words-lt5.result c.third-item.result c.last-item.result c.as_str-in-len4.result.now c.as_str-in-len4-2.result.now c.as_str-in-len4-3.result.now c.as_str-in-len4-4.result.now c.in-len4.len_at_least c.in-len4.len_below c.first-item-then-words-lt5.is c.second-item-then-words-lt5.is c.third-item.is c.last-item.is c.as_str-in-len4.ensures.value c.as_str-in-len4-2.ensures.value c.as_str-in-len4-3.ensures.value c.as_str-in-len4-4.ensures.value in
+    subst (λ (w : List (List ℕ)). IfSome c.of_four.result (Reads w)) (sym is) c.of_four.ensures.found
 
 pub returns-in-len4-clause-only : goal.returns-in-len4-clause-only
 returns-in-len4-clause-only c = λ command reads.
-    let parts = four c.args.words.now c.first-item-then-words-lt5.result c.last-item.result c.as_str-in-len4.result.now c.as_str-in-len4-2.result.now c.in-len4.len_at_least c.in-len4.len_below c.first-item-then-words-lt5.is c.last-item.is c.as_str-in-len4.ensures.value c.as_str-in-len4-2.ensures.value in
-    c.of_four.ensures.only parts.0 parts.1 command (subst (λ (w : List (List ℕ)). Reads w command) parts.2 reads)
+    let is = four c.args.words.now c.first-item-then-words-lt5.result c.second-item-then-words-lt5.result c.third-item.result c.last-item.result c.as_str-in-len4.result.now c.as_str-in-len4-2.result.now c.as_str-in-len4-3.result.now c.as_str-in-len4-4.result.now c.in-len4.len_at_least c.in-len4.len_below c.first-item-then-words-lt5.is c.second-item-then-words-lt5.is c.third-item.is c.last-item.is c.as_str-in-len4.ensures.value c.as_str-in-len4-2.ensures.value c.as_str-in-len4-3.ensures.value c.as_str-in-len4-4.ensures.value in
+    c.of_four.ensures.only command (subst (λ (w : List (List ℕ)). Reads w command) is reads)
 
 -- and the six words
 abbrev Six : List (List ℕ) → List ℕ → List ℕ → List ℕ → Type 0
