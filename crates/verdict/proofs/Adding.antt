@@ -94,7 +94,7 @@ module _ (image : Img) (sizes : Sizes) (tables : List Table) (run : VerdictRun) 
       stands = λ w h.
           subst (λ ns. StandsFor ns (values_of image w) new.checker) st.text
           (stands (values_of image w) (subst (λ ns. StandsFor ns (values_of image w) run.checker) (sym st.text) (st.stands w (begins_before image sizes tables t known w h)))
-           (subst (λ (f : Framed). IsSameInstance (values_of_frame f) (values_of image w) s t.instance) (sym is) (subst (λ u. IsSameInstance (values_of_frame (framed_of (fixed_of image sizes) sizes.profile (space t) t)) (values_of image w) u t.instance) (sym here) (instance_same image sizes tables t known law w h))));
+          (subst (λ (f : Framed). IsSameInstance (values_of_frame f) (values_of image w) s t.instance) (sym is) (subst (λ u. IsSameInstance (values_of_frame (framed_of (fixed_of image sizes) sizes.profile (space t) t)) (values_of image w) u t.instance) (sym here) (instance_same image sizes tables t known law w h))));
       told = by (eqb t.air (air_number airs.Out)) refl;
     }
       where

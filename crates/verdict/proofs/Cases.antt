@@ -117,10 +117,25 @@ own : First IsOwn 13
 unfolding air_in namespace_number namespace_of
 own = (
   (λ b e. absurd (none-some b e)),
-  ((λ b e. absurd (none-some b e)), ((λ b e. absurd (none-some b e)), ((λ b e. absurd (none-some b e)), ((λ b e. absurd (none-some b e)), ((λ b e. absurd (none-some b e)), (
-    (λ b e. ap (λ o. namespace_number (namespace_of (unwrap_or o airs.Main))) e),
-    ((λ b e. ap (λ o. namespace_number (namespace_of (unwrap_or o airs.Main))) e), ((λ b e. ap (λ o. namespace_number (namespace_of (unwrap_or o airs.Main))) e), ((λ b e. ap (λ o. namespace_number (namespace_of (unwrap_or o airs.Main))) e), ((λ b e. ap (λ o. namespace_number (namespace_of (unwrap_or o airs.Main))) e), ((λ b e. ap (λ o. namespace_number (namespace_of (unwrap_or o airs.Main))) e), ((λ b e. ap (λ o. namespace_number (namespace_of (unwrap_or o airs.Main))) e), tt)))))),
-  )))))),
+  (
+    (λ b e. absurd (none-some b e)),
+    (
+      (λ b e. absurd (none-some b e)),
+      (
+        (λ b e. absurd (none-some b e)),
+        (
+          (λ b e. absurd (none-some b e)),
+          (
+            (λ b e. absurd (none-some b e)),
+            (
+              (λ b e. ap (λ o. namespace_number (namespace_of (unwrap_or o airs.Main))) e),
+              ((λ b e. ap (λ o. namespace_number (namespace_of (unwrap_or o airs.Main))) e), ((λ b e. ap (λ o. namespace_number (namespace_of (unwrap_or o airs.Main))) e), ((λ b e. ap (λ o. namespace_number (namespace_of (unwrap_or o airs.Main))) e), ((λ b e. ap (λ o. namespace_number (namespace_of (unwrap_or o airs.Main))) e), ((λ b e. ap (λ o. namespace_number (namespace_of (unwrap_or o airs.Main))) e), ((λ b e. ap (λ o. namespace_number (namespace_of (unwrap_or o airs.Main))) e), tt)))))),
+            ),
+          ),
+        ),
+      ),
+    ),
+  ),
 )
 
 pub own_number : (s : ℕ) → s < 13 → IsOwn s
@@ -136,7 +151,6 @@ all_counts image w = (refl, (refl, (refl, (refl, (refl, (refl, (refl, (refl, (re
 
 pub count_is : (image : Img) (w : Witness) (s : ℕ) → s < 13 → IsCount image w s
 count_is image w s l = first_at (IsCount image w) 13 (all_counts image w) s l
-
 
 -- ---- the namespaces that have constants alone
 

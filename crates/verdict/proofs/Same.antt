@@ -133,16 +133,16 @@ module _ (law : TablesLaw) (image : Img) (w : Witness) (a : Air) (t : Table) (th
   tabled k r h l m =
       subst (λ n. (values_of image w).at s t.instance n r ≡ cell_of t.columns (k - count) r) (ap (λ n. n + (k - count)) (sym same_count) ∙ again k count h)
       (law image w a t.instance (k - count) r there (past k count (width (space_at (machine w.profile) s).items) (columns_per a) h l ((of_air w.profile a).wide ∙ ap (λ n. n + columns_per a) (sym same_count))) (subst (λ n. r < n) (of_air w.profile a).high m)
-       ∙ ap (λ o. option_map_or (W.value_in (k - count) r) o 0) found)
+      ∙ ap (λ o. option_map_or (W.value_in (k - count) r) o 0) found)
 
   value : (k r : ℕ) → k < (values_of image w).width s → r < rows → cell_of (constants_at f s t.instance rows ++ t.columns) k r ≡ (values_of image w).at s t.instance k r
   value k r l m =
       let long = constants_long f s t.instance rows in
       ⊎_elim
       (λ h. ap (λ x. slice_index x r) (in_front (constants_at f s t.instance rows) t.columns k (subst (λ n. k < n) (sym long) h)) ∙ constant_cell f s t.instance rows k r h m
-       ∙ sym (constant_value image w s t.instance k r (of_air w.profile a).below (subst (λ n. t.instance < n) (sym (many image w a)) there) l m h))
+      ∙ sym (constant_value image w s t.instance k r (of_air w.profile a).below (subst (λ n. t.instance < n) (sym (many image w a)) there) l m h))
       (λ h. ap (λ x. slice_index x r) (behind (constants_at f s t.instance rows) t.columns k (subst (λ n. n ≤ k) (sym long) h) ∙ ap (λ n. slice_index_or t.columns (k - n) []) long)
-       ∙ sym (tabled k r h l m))
+      ∙ sym (tabled k r h l m))
       (cases_lt k count)
 
   pub frame_same : IsSameInstance (values_of_frame (framed_of f w.profile s t)) (values_of image w) s t.instance

@@ -52,10 +52,25 @@ late : (image : Img) (sizes : Sizes) → First (IsLate image sizes) 13
 unfolding air_in
 late image sizes = (
   (λ l. absurd (omega arith)),
-  ((λ l. absurd (omega arith)), ((λ l. absurd (omega arith)), ((λ l. absurd (omega arith)), ((λ l. absurd (omega arith)), ((λ l. absurd (omega arith)), (
-    (λ l. refl),
-    ((λ l. refl), ((λ l. refl), ((λ l. refl), ((λ l. refl), ((λ l. refl), ((λ l. refl), tt)))))),
-  )))))),
+  (
+    (λ l. absurd (omega arith)),
+    (
+      (λ l. absurd (omega arith)),
+      (
+        (λ l. absurd (omega arith)),
+        (
+          (λ l. absurd (omega arith)),
+          (
+            (λ l. absurd (omega arith)),
+            (
+              (λ l. refl),
+              ((λ l. refl), ((λ l. refl), ((λ l. refl), ((λ l. refl), ((λ l. refl), ((λ l. refl), tt)))))),
+            ),
+          ),
+        ),
+      ),
+    ),
+  ),
 )
 
 constant_count : (image : Img) (sizes : Sizes) (s : ℕ) (o : Option Air) → o ≡ None → C.instances_of image sizes (namespace_at s) ≡ count_in image sizes [] s o
@@ -134,9 +149,9 @@ out_is w h one =
       is = r.is;
       air = r.air;
       found =
-      subst (λ m. find (is_instance 6 m) w.tables ≡ Some r.table) zero
-      (subst (λ m. find (is_instance m r.table.instance) w.tables ≡ Some r.table) r.air
-      (subst (λ ts. find (is_instance r.table.air r.table.instance) ts ≡ Some r.table) (sym parts.1) (n.first parts.0)));
+          subst (λ m. find (is_instance 6 m) w.tables ≡ Some r.table) zero
+          (subst (λ m. find (is_instance m r.table.instance) w.tables ≡ Some r.table) r.air
+          (subst (λ ts. find (is_instance r.table.air r.table.instance) ts ≡ Some r.table) (sym parts.1) (n.first parts.0)));
     }
 
 abbrev OutsLaw : Type 0

@@ -4,9 +4,8 @@ ghost use Rattle.machine_columns.specs.Accepted.{AreWellFormed};
 ghost use Rattle.verdict.specs.Judged.{IsJudged};
 ghost use Rattle.verdict.specs.Steps.{IsSound};
 
-use crate::Judgement;
-use crate::VerdictRun;
 use crate::laws::soundness_laws;
+use crate::{Judgement, VerdictRun};
 use gold::Witness;
 use machine_columns::table_sizes;
 use rv_model::Image;

@@ -71,12 +71,15 @@ demo_reported names number kind size image made text o one loads halted is demo 
 
 -- there is one
 pub demo_some : (names : List Asked) (number : ℕ) (kind : DemoKind) (size : ℕ) (image : Img) (n : ℕ) (public : Public) → Loads (demo_file number kind size) [] image → EndsOnce image 4294967295 → n ≤ 4294967295 → RunsTo image n public → AreAccepted image (sequential_witness image n public) → (o : Outcome) × IsDemoOutcome names number kind size o
-demo_some names number kind size image n public loads once few runs accepted = (reporting names Done (report_of image n public), record {
-  image = image;
-  loads = loads;
-  steps = n;
-  public = public;
-  halts = sym (once.only (Halted n public) (few, runs));
-  accepted = accepted;
-  is = refl;
-})
+demo_some names number kind size image n public loads once few runs accepted = (
+  reporting names Done (report_of image n public),
+  record {
+    image = image;
+    loads = loads;
+    steps = n;
+    public = public;
+    halts = sym (once.only (Halted n public) (few, runs));
+    accepted = accepted;
+    is = refl;
+  },
+)

@@ -31,12 +31,7 @@ use zk_words::Status;
 const DEMO_STEPS: u32 = u32::MAX;
 
 // The image of the program's file: no test of the loader fails.
-fn image_of_demo(
-    alloc: Global,
-    number: u64,
-    kind: DemoKind,
-    size: u32,
-) -> Result<Image, AllocError>
+fn image_of_demo(alloc: Global, number: u64, kind: DemoKind, size: u32) -> Result<Image, AllocError>
     requires { IsSize size }
     ensures { IfOk result (Loads (demo_file number kind size) []) }
 {

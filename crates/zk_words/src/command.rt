@@ -18,15 +18,22 @@ const MOST_DRAWN: u32 = 100_000;
 #[derive(Clone, Copy, Debug, PartialEq, Eq)]
 pub enum Command {
     /// `run ELF INPUT STEPS`
-    Run { steps: u32 },
+    Run {
+        steps: u32,
+    },
     /// `witness ELF INPUT TABLES STEPS WORKERS`
-    Witness { steps: u32, workers: u32 },
+    Witness {
+        steps: u32,
+        workers: u32,
+    },
     /// `check ELF INPUT TABLES`
     Check,
     /// `pil PILFILE TABLES`
     Pil,
     /// `machine` is Small's, `machine wide` is Wide's.
-    Machine { profile: Profile },
+    Machine {
+        profile: Profile,
+    },
     /// `demo NUMBER KIND SIZE`
     Demo {
         number: u64,

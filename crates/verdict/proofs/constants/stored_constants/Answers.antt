@@ -10,7 +10,7 @@ use Rattle.verdict.proofs.constants.stored_constants.Goals as goal
 pub loop-space-preserved : goal.loop-space-preserved
 loop-space-preserved c = (
   map_more (instances_at c.args.fixed.now c.args.profile) c.loop-space.spaces c.push.new.self c.loop-space.space c.in_ok-instances.instances c.loop-space.invariant.0 c.in_ok-push.ensures.ok
-  (c.in_ok-instances.ensures.columns ∙ ap (instances_with c.args.fixed.now c.loop-space.space) (c.rows.ensures ∙ ap (λ ns. (space_at ns c.loop-space.space).rows) c.requires)),
+      (c.in_ok-instances.ensures.columns ∙ ap (instances_with c.args.fixed.now c.loop-space.space) (c.rows.ensures ∙ ap (λ ns. (space_at ns c.loop-space.space).rows) c.requires)),
   all_more (λ (x : List (List (List ℕ))). length x < 2 ^ 32) c.loop-space.spaces c.push.new.self c.in_ok-instances.instances c.loop-space.invariant.1 c.in_ok-push.ensures.ok c.in_ok-instances.ensures.few,
   all_more (All AreCanonical) c.loop-space.spaces c.push.new.self c.in_ok-instances.instances c.loop-space.invariant.2 c.in_ok-push.ensures.ok c.in_ok-instances.ensures.canonical,
 )

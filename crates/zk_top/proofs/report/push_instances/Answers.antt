@@ -10,8 +10,8 @@ loop-air-preserved c =
     let count : ℕ → ℕ = λ air. count_by (λ t. t.air == air) tables in
     let out : List ℕ = c.loop-air.text.items in
     let digits : c.as_bytes.result.now ≡ decimal (count c.loop-air.air) =
-        c.as_bytes.ensures.value ∙ c.format.ensures.text ∙ ap decimal (c.tables_of_air-count.ensures ∙ ap (λ (ts : List Table). count_by (λ t. t.air == c.loop-air.air) ts) c.as_slice.ensures.items) in
+    c.as_bytes.ensures.value ∙ c.format.ensures.text ∙ ap decimal (c.tables_of_air-count.ensures ∙ ap (λ (ts : List Table). count_by (λ t. t.air == c.loop-air.air) ts) c.as_slice.ensures.items) in
     let next : c.extend_from_slice-in-loop-air.new.self.items ≡ out ++ (codes " " ++ decimal (count c.loop-air.air)) =
-        c.in_ok-extend_from_slice-2.ensures.items ∙ ap (λ (xs : List ℕ). xs ++ c.as_bytes.result.now) c.in_ok-push.ensures.items ∙ append_assoc out (codes " ") c.as_bytes.result.now
-        ∙ ap (λ (bs : List ℕ). out ++ (codes " " ++ bs)) digits in
+    c.in_ok-extend_from_slice-2.ensures.items ∙ ap (λ (xs : List ℕ). xs ++ c.as_bytes.result.now) c.in_ok-push.ensures.items ∙ append_assoc out (codes " ") c.as_bytes.result.now
+    ∙ ap (λ (bs : List ℕ). out ++ (codes " " ++ bs)) digits in
     counts_more (λ air. codes " " ++ decimal (count air)) c.extend_from_slice.new.self.items out c.extend_from_slice-in-loop-air.new.self.items c.loop-air.air c.loop-air.invariant next

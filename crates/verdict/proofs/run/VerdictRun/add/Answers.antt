@@ -17,7 +17,7 @@ pub add-requires-clause-fits : goal.add-requires-clause-fits
 add-requires-clause-fits c =
     fits c.args.image.now c.requires.sizes c.requires.tables c.args.self.now c.args.table.now c.requires.stands c.requires.next c.whole_laws.ensures.frame c.new-frame.result
     (c.new-frame.ensures ∙ frame_is c.args.image.now c.requires.sizes c.requires.tables c.args.self.now c.args.table.now c.requires.stands
-     c.space_of-space.result c.rows.result c.in_ok-first.first c.as_slice-others.result.now c.space_of-space.ensures.is c.rows.ensures c.in_ok-first.ensures.columns c.as_slice-others.ensures.items)
+    c.space_of-space.result c.rows.result c.in_ok-first.first c.as_slice-others.result.now c.space_of-space.ensures.is c.rows.ensures c.in_ok-first.ensures.columns c.as_slice-others.ensures.items)
 
 pub add-requires-clause-next : goal.add-requires-clause-next
 add-requires-clause-next c =
@@ -33,7 +33,7 @@ pub returns : goal.returns
 returns c = λ sizes tables st comes.
     stands_more c.args.image.now sizes tables c.args.self.now c.args.table.now st comes c.columns_laws.ensures.tables c.publish.new.self c.new-frame.result c.space_of-space.result
     (c.new-frame.ensures ∙ frame_is c.args.image.now sizes tables c.args.self.now c.args.table.now st
-     c.space_of-space.result c.rows.result c.in_ok-first.first c.as_slice-others.result.now c.space_of-space.ensures.is c.rows.ensures c.in_ok-first.ensures.columns c.as_slice-others.ensures.items)
+    c.space_of-space.result c.rows.result c.in_ok-first.first c.as_slice-others.result.now c.space_of-space.ensures.is c.rows.ensures c.in_ok-first.ensures.columns c.as_slice-others.ensures.items)
     c.space_of-space.ensures.is c.publish.ensures.profile c.publish.ensures.pil c.publish.ensures.fixed
     (subst (IsBuilt (namespaces c.args.self.now.pil)) (sym c.publish.ensures.checker) c.in_ok-add.ensures.built)
     (ap (λ (k : Checker). k.counts.items) c.publish.ensures.checker ∙ c.in_ok-add.ensures.counts)

@@ -25,6 +25,6 @@ returns-in-Some c = λ image sizes tables st all.
 pub returns : goal.returns
 returns c = λ image sizes tables st all. (
   subst (λ o. MatchOption o (AreAccepted image (witness_with sizes tables)) (λ b. IsFirstBroken (machine sizes.profile) (values_of image (witness_with sizes tables)) b)) c.in-None.is
-  (verdict_of image sizes tables c.args.self c.in_ok-found.found st all c.in_ok-found.ensures),
+      (verdict_of image sizes tables c.args.self c.in_ok-found.found st all c.in_ok-found.ensures),
   published_is c.columns_laws.ensures.tables c.publics_laws.ensures.outs image (witness_with sizes tables) all.formed (one_out image (witness_with sizes tables) (c.publics_laws.ensures.one image (witness_with sizes tables) all.formed)) c.args.self.public st.told,
 )
