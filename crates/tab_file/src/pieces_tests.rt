@@ -1,4 +1,7 @@
 //! A file by hand, in pieces.
+ghost use Rattle.std.specs.Prelude.{◌≡◌, IfOk};
+ghost use Rattle.tab_file.specs.Stands.{taken};
+
 use super::*;
 use gold::{AirShape, Form, Profile, Sequence, Shape};
 use std::alloc::{AllocError, Global};
@@ -10,7 +13,9 @@ const SMALL: [u8; 56] = [
     3, 0, 0, 0, 0, 0, 0, 0, 0, 0, 0, 0, 1, 0, 0, 0, 0, 0, 0, 0, 2, 0, 0, 0, 0, 0, 0, 0,
 ];
 
-fn small_reader(alloc: Global) -> Result<TabReader, AllocError> {
+fn small_reader(alloc: Global) -> Result<TabReader, AllocError>
+    ensures { IfOk result (λ r. taken r ≡ 0) }
+{
     let air = AirShape {
         rows: 3,
         columns: 1,
