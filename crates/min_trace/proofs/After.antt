@@ -1,5 +1,5 @@
 -- The state after a step, by its record.
-use Rattle.std.proofs.Common.{◌≡◌, ◌==◌, ◌+◌, ◌*◌, ◌/◌, ◌%◌, ◌<◌, ◌^◌, ℕ, Bool, true, false, if◌then◌else◌, List, length, get_or, Option, Some, None, IfSome, IsSome, unwrap_or, refl, ap, sym, subst, ◌∙◌, arith, inl, inr, set}
+use Rattle.std.proofs.Common.{◌≡◌, ◌==◌, ◌+◌, ◌<◌, ℕ, Bool, true, false, if◌then◌else◌, List, length, get_or, Option, Some, None, IfSome, unwrap_or, refl, ap, sym, subst, ◌∙◌, arith, inl, inr, set}
 use Rattle.std.proofs.lemmas.Bool.{cases_Bool}
 use Rattle.std.proofs.lemmas.List.{get_or-set_same}
 use Rattle.rv_word.specs.declared.instr.Instr.{Instr}
@@ -8,15 +8,13 @@ use Rattle.rv_word.specs.Is.{Is, decoded}
 use Rattle.rv_word.specs.Ranges.{InRange}
 use Rattle.rv_model.specs.Image.{Img, fetch}
 use Rattle.rv_model.specs.Code.{instr_of}
-use Rattle.rv_model.specs.Op.{bits_of}
-use Rattle.rv_model.specs.State.{State, Answer, Next, Halt, Fault, step, executed, executed_fetch, executed_word, next, with_reg, wrapped, reg, is_taken}
-use Rattle.rv_model.specs.Cpu.{cpu_of}
+use Rattle.rv_model.specs.State.{State, Answer, Next, Halt, Fault, step, executed_fetch, executed_word, next, with_reg, reg, is_taken}
 use Rattle.rv_model.specs.Run.{state_at, step_at, moved, IsNext}
 use Rattle.min_trace.specs.declared.record.StepRecord.{StepRecord}
 use Rattle.min_trace.specs.Operands.{rs1_of, rs2_of, rd_of}
 use Rattle.min_trace.specs.Record.{instr_at, onward, record_at}
 use Rattle.min_trace.specs.Chunk.{IsStep}
-use Rattle.min_trace.specs.After.{with_written, with_stored, after}
+use Rattle.min_trace.specs.After.{with_written, after}
 use Rattle.min_trace.proofs.Steps.{state_more}
 use Rattle.min_trace.proofs.Completes.{jumped, completed, completes, executes_at, in_range_at, AreRegisters, registers_at}
 use Rattle.min_trace.proofs.Facts.{recorded, recorded_at}

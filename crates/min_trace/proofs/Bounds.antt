@@ -1,20 +1,19 @@
 -- The numbers of a run are those of 64 bits.
-use Rattle.std.proofs.Common.{◌≡◌, ◌==◌, ◌+◌, ◌-◌, ◌*◌, ◌/◌, ◌%◌, ◌<◌, ◌≤◌, ◌<ℤ◌, ◌^◌, ℕ, zero, suc, ℤ, pos, negsuc, Bool, true, false, if◌then◌else◌, List, length, get_or, Option, Some, None, IfSome, unwrap_or, replicate, ◌⊎◌, refl, ap, sym, subst, ◌∙◌, arith, inl, inr, set}
+use Rattle.std.proofs.Common.{◌≡◌, ◌==◌, ◌+◌, ◌*◌, ◌/◌, ◌%◌, ◌<◌, ◌≤◌, ◌<ℤ◌, ◌^◌, ℕ, zero, suc, ℤ, pos, negsuc, Bool, true, false, if◌then◌else◌, List, length, get_or, Option, Some, None, IfSome, unwrap_or, replicate, ◌⊎◌, refl, sym, subst, ◌∙◌, arith, inl, inr, set}
 use Rattle.std.specs.Option.{option_map_or}
 use Rattle.std.proofs.lemmas.Int.{ints}
 use Rattle.std.proofs.lemmas.Bool.{cases_eq, cases_lt}
 use Rattle.std.proofs.lemmas.List.{length-set, get_or-set_same, get_or-set_other, get_or_past}
 use Rattle.rv_word.specs.declared.instr.Kind.{Kind}
-use Rattle.rv_word.specs.declared.instr.Kind.TheVariants.{Lb, Lh, Lw, Ld, Lbu, Lhu, Lwu, Sb, Sh, Sw, Sd}
 use Rattle.rv_word.specs.declared.instr.OpNo.{OpNo}
 use Rattle.rv_word.specs.declared.instr.OpNo.TheVariants as ops
 use Rattle.rv_word.specs.declared.instr.Instr.{Instr}
 use Rattle.rv_word.specs.declared.instr.Instr.TheVariants.{Lui, Auipc, Jal, Jalr, Branch, Load, Store, OpImm, Op, Fence, Ecall, Ebreak}
 use Rattle.rv_word.specs.Ranges.{InRange, IsImmOf}
-use Rattle.rv_model.specs.Image.{Img, IsLoadable, initial_word}
+use Rattle.rv_model.specs.Image.{Img, initial_word}
 use Rattle.rv_model.specs.Op.{value_of, bits_of}
-use Rattle.rv_model.specs.Align.{width, aligned}
-use Rattle.rv_model.specs.State.{State, Answer, Next, Halt, Fault, wrapped, operand, with_word, executed}
+use Rattle.rv_model.specs.Align.{aligned}
+use Rattle.rv_model.specs.State.{State, Answer, Next, Halt, Fault, wrapped, operand, with_word}
 use Rattle.rv_model.specs.Cpu.{cpu_of, is_store}
 use Rattle.rv_model.specs.Run.{state_at, step_at, moved}
 use Rattle.min_trace.specs.declared.record.MemAct.{MemAct}
@@ -22,7 +21,7 @@ use Rattle.min_trace.specs.declared.record.StepRecord.{StepRecord}
 use Rattle.min_trace.specs.Operands.{rs1_of, rs2_of, rd_of, uw_of, op_of}
 use Rattle.min_trace.specs.Record.{instr_at, second, record_at}
 use Rattle.min_trace.specs.Chunk.{IsStep}
-use Rattle.min_trace.specs.Laws.{Accesses, IsActAt, is_taken_by, leads_to, value_in, written_by}
+use Rattle.min_trace.specs.Laws.{Accesses, IsActAt, is_taken_by, leads_to, value_in}
 use Rattle.min_trace.specs.After.{with_written, with_stored, after}
 use Rattle.min_trace.specs.Bounds.{IsState, IsAct, IsRecord}
 use Rattle.min_trace.proofs.Steps.{state_more}

@@ -1,5 +1,5 @@
 -- What the fields of a record have to do with each other.
-use Rattle.std.proofs.Common.{◌≡◌, ◌==◌, ◌+◌, ◌-◌, ◌*◌, ◌/◌, ◌%◌, ◌<◌, ◌<ℤ◌, ◌^◌, ℕ, ℤ, pos, negsuc, Bool, true, false, if◌then◌else◌, List, length, get_or, Option, Some, None, IfSome, refl, ap, sym, subst, ◌∙◌, arith, inl, inr, set}
+use Rattle.std.proofs.Common.{◌≡◌, ◌==◌, ◌+◌, ◌%◌, ◌<◌, ◌<ℤ◌, ◌^◌, ℕ, ℤ, pos, negsuc, Bool, true, false, if◌then◌else◌, List, length, get_or, Option, Some, None, IfSome, refl, ap, sym, subst, ◌∙◌, arith, inl, inr, set}
 use Rattle.std.proofs.lemmas.Int.{ints}
 use Rattle.std.proofs.lemmas.Bool.{cases_Bool}
 use Rattle.std.proofs.lemmas.List.{get_or-set_same}

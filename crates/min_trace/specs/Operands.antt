@@ -6,6 +6,7 @@ use Rattle.rv_word.specs.declared.instr.OpNo.{OpNo}
 use Rattle.rv_word.specs.declared.instr.OpNo.TheVariants as ops
 use Rattle.rv_word.specs.declared.instr.Instr.{Instr}
 use Rattle.rv_word.specs.declared.instr.Instr.TheVariants.{Lui, Auipc, Jal, Jalr, Branch, Load, Store, OpImm, Op, Fence, Ecall, Ebreak}
+use Rattle.rv_model.specs.declared.machine.TheConstants.{CALL_REGISTER}
 use Rattle.rv_model.specs.Op.{bits_of}
 use Rattle.rv_model.specs.State.{wrapped}
 
@@ -17,7 +18,7 @@ rs1_of (Load kind rd rs1 imm) = rs1
 rs1_of (Store kind rs1 rs2 imm) = rs1
 rs1_of (OpImm op rd rs1 imm uw) = rs1
 rs1_of (Op op rd rs1 rs2 uw) = rs1
-rs1_of Ecall = 17
+rs1_of Ecall = CALL_REGISTER
 rs1_of _ = 0
 
 abbrev pub rs2_of : Instr → ℕ

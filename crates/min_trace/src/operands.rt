@@ -3,6 +3,7 @@
 ghost use Rattle.std.specs.Prelude.{◌≡◌, ◌+◌, ◌^◌};
 ghost use Rattle.min_trace.specs.Operands.{rs1_of, rs2_of, rd_of, op_of, uw_of, compared_by, constant_of};
 
+use rv_model::CALL_REGISTER;
 use rv_word::{Cond, Instr, OpNo, Reg};
 
 /// The first register that is read: x17 for ECALL, and x0 where the instruction names none.
@@ -16,7 +17,7 @@ pub fn rs1_of(instr: &Instr) -> Reg
         | Instr::Store { rs1, .. }
         | Instr::OpImm { rs1, .. }
         | Instr::Op { rs1, .. } => *rs1,
-        Instr::Ecall => Reg::new(17),
+        Instr::Ecall => Reg::new(CALL_REGISTER as u8),
         _ => Reg::new(0),
     }
 }

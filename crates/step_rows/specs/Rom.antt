@@ -9,7 +9,7 @@ use Rattle.rv_word.specs.declared.instr.Instr.{Instr}
 use Rattle.rv_word.specs.declared.instr.Instr.TheVariants.{Lui, Auipc, Jal, Jalr, Branch, Load, Store, OpImm, Op, Fence, Ecall, Ebreak}
 use Rattle.rv_word.specs.Numbers.{op_number, kind_number}
 use Rattle.rv_model.specs.Image.{Img, fetch}
-use Rattle.rv_model.specs.declared.machine.TheConstants.{MEMORY_END}
+use Rattle.rv_model.specs.declared.machine.TheConstants.{MEMORY_END, CALL_REGISTER}
 use Rattle.rv_model.specs.Op.{bits_of}
 use Rattle.rv_model.specs.State.{wrapped}
 use Rattle.min_trace.specs.Operands.{compared_by}
@@ -59,7 +59,7 @@ rom_row pc (Store k rs1 rs2 imm) = record (with_constant (blank pc ops.Add) (bit
 rom_row pc (OpImm o rd rs1 imm uw) = writing rd (record (with_constant (blank pc o) (bits_of imm)) { rs1 = rs1; uw = one_if uw })
 rom_row pc (Op o rd rs1 rs2 uw) = writing rd (record (blank pc o) { rs1 = rs1; rs2 = rs2; bi = 0; uw = one_if uw })
 rom_row pc Fence = blank pc ops.Add
-rom_row pc Ecall = record (blank pc ops.Add) { rs1 = 17; halt = 1 }
+rom_row pc Ecall = record (blank pc ops.Add) { rs1 = CALL_REGISTER; halt = 1 }
 rom_row pc Ebreak = blank pc ops.Add
 
 -- in order of the columns

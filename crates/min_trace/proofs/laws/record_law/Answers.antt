@@ -1,4 +1,4 @@
-use Rattle.std.proofs.Common.{◌≡◌, refl}
+use Rattle.std.proofs.Common.{refl}
 use Rattle.min_trace.specs.Record.{record_at, old_at}
 use Rattle.min_trace.proofs.Facts.{accesses_at, leads_at, writes_at}
 use Rattle.min_trace.proofs.laws.record_law.Goals as goal

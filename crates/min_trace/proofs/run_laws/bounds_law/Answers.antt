@@ -1,7 +1,4 @@
-use Rattle.std.proofs.Common.{◌<◌, ◌^◌, ℕ, arith}
-use Rattle.rv_model.specs.Image.{Img, IsLoadable}
-use Rattle.rv_model.specs.Run.{state_at}
-use Rattle.min_trace.specs.Bounds.{IsState}
+use Rattle.std.proofs.Common.{◌<◌, ◌^◌, arith}
 use Rattle.min_trace.proofs.Bounds.{FromBelow, record_below, state_below}
 use Rattle.min_trace.proofs.run_laws.bounds_law.Goals as goal
 
