@@ -10,8 +10,8 @@ use Rattle.pil_names.specs.Wrongs.{repeated, unknown, bad_rows, mixed, wrong_wid
 use Rattle.pil_meaning.specs.Meaning.{meaning}
 use Rattle.pil_meaning.specs.Marks.{double}
 use Rattle.pil_text.specs.declared.error.PilErr.{PilErr}
-use Rattle.pil_text.specs.declared.error.PilErrKind.{PilErrKind}
-use Rattle.pil_text.specs.declared.error.PilErrKind.TheVariants.{BadByte, NumberTooLarge, Unexpected, TooDeep, Repeated, UnknownName, BadRow, Mixed, WrongWidth, CyclicPol, DoubleMark, NoMemory}
+use Rattle.pil_text.specs.declared.error.PilKind.{PilKind}
+use Rattle.pil_text.specs.declared.error.PilKind.TheVariants.{BadByte, NumberTooLarge, Unexpected, TooDeep, Repeated, UnknownName, BadRow, Mixed, WrongWidth, CyclicPol, DoubleMark, NoMemory}
 use Rattle.pil_text.specs.Refusal.{IsWrong, IsCyclic, IsCyclicIn, IsClear, Means, Breaks, turn, place_of}
 use Rattle.pil_text.specs.Cyclic.{IsLeastOf}
 use Rattle.pil_text.proofs.Order.{breaks, told, kept, start, past_repeated, past_unknown, past_rows, past_mixed, past_widths, past_cyclic, past_double}
@@ -94,7 +94,7 @@ module _ (each : (items : List Line) (k : ℕ) → IsOnCycle items k ⊎ ¬ IsOn
   abbrev Told : Type 0
   Told = (e : PilErr) × Breaks o e
 
-  told_at : IsLeast → (k : PilErrKind) (ns : List ℕ) → IsClear (turn k) o → turn k ≤ 9 → ((at : ℕ) → IsWrong k o at ≡ Contains ns at) → (found : Option ℕ) → found ≡ least ns → (ns ≡ []) ⊎ Told
+  told_at : IsLeast → (k : PilKind) (ns : List ℕ) → IsClear (turn k) o → turn k ≤ 9 → ((at : ℕ) → IsWrong k o at ≡ Contains ns at) → (found : Option ℕ) → found ≡ least ns → (ns ≡ []) ⊎ Told
   told_at is_least k ns c few same None e = inl (kept is_least ns None e refl)
   told_at is_least k ns c few same (Some m) e = inr (record { kind = k; at = m }, told is_least o k ns (Some m) (record { kind = k; at = m }) c few same e refl refl)
 
@@ -123,10 +123,10 @@ module _ (each : (items : List Line) (k : ℕ) → IsOnCycle items k ⊎ ¬ IsOn
       onward (told_at is_least DoubleMark (double o) c8 (omega arith) (λ at. refl) (least (double o)) refl) (λ a7. inl (past_double o c8 a7))))))))
 
 -- the kind of a rule by its turn
-abbrev kind_of : ℕ → PilErrKind
+abbrev kind_of : ℕ → PilKind
 kind_of n = if nat_eq n 2 then Repeated else (if nat_eq n 3 then UnknownName else (if nat_eq n 4 then BadRow else (if nat_eq n 5 then Mixed else (if nat_eq n 6 then WrongWidth else (if nat_eq n 7 then CyclicPol else DoubleMark)))))
 
-kind_back : (o : Outline) (k : PilErrKind) (at : ℕ) → IsWrong k o at → kind_of (turn k) ≡ k
+kind_back : (o : Outline) (k : PilKind) (at : ℕ) → IsWrong k o at → kind_of (turn k) ≡ k
 kind_back o BadByte at w = absurd w
 kind_back o NumberTooLarge at w = absurd w
 kind_back o Unexpected at w = absurd w

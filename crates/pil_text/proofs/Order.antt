@@ -5,15 +5,15 @@ use Rattle.pil_names.specs.Least.{least, IsLeast}
 use Rattle.pil_names.specs.Wrongs.{repeated, unknown, bad_rows, mixed, wrong_widths}
 use Rattle.pil_meaning.specs.Marks.{double}
 use Rattle.pil_text.specs.declared.error.PilErr.{PilErr}
-use Rattle.pil_text.specs.declared.error.PilErrKind.{PilErrKind}
-use Rattle.pil_text.specs.declared.error.PilErrKind.TheVariants.{BadByte, NumberTooLarge, Unexpected, TooDeep, Repeated, UnknownName, BadRow, Mixed, WrongWidth, CyclicPol, DoubleMark, NoMemory}
+use Rattle.pil_text.specs.declared.error.PilKind.{PilKind}
+use Rattle.pil_text.specs.declared.error.PilKind.TheVariants.{BadByte, NumberTooLarge, Unexpected, TooDeep, Repeated, UnknownName, BadRow, Mixed, WrongWidth, CyclicPol, DoubleMark, NoMemory}
 use Rattle.pil_text.specs.Refusal.{IsWrong, IsCyclic, IsClear, Breaks, UnlessMemory, turn}
 
 nowhere : (ns : List ℕ) (at : ℕ) → ns ≡ [] → Contains ns at → ⊥
 nowhere ns at e c = let none : Contains [] at = subst (λ xs. Contains xs at) e c in absurd (omega (arith, none.1))
 
 -- no rule is broken that is tested before
-pub before : (n : ℕ) (o : Outline) → n ≤ 9 → IsClear n o → (k : PilErrKind) (at : ℕ) → turn k < n → IsWrong k o at → ⊥
+pub before : (n : ℕ) (o : Outline) → n ≤ 9 → IsClear n o → (k : PilKind) (at : ℕ) → turn k < n → IsWrong k o at → ⊥
 before n o few c BadByte at l w = w
 before n o few c NumberTooLarge at l w = w
 before n o few c Unexpected at l w = w
@@ -28,7 +28,7 @@ before n o few c DoubleMark at l w = nowhere (double o) at (c.double l) w
 before n o few c NoMemory at l w = w
 
 -- the least place of a rule's list is refused, where the rules before are kept
-pub breaks : (o : Outline) (k : PilErrKind) (e : PilErr) → IsClear (turn k) o → turn k ≤ 9 → e.kind ≡ k → IsWrong k o e.at → ((at : ℕ) → IsWrong k o at → e.at ≤ at) → Breaks o e
+pub breaks : (o : Outline) (k : PilKind) (e : PilErr) → IsClear (turn k) o → turn k ≤ 9 → e.kind ≡ k → IsWrong k o e.at → ((at : ℕ) → IsWrong k o at → e.at ≤ at) → Breaks o e
 breaks o k e c few same wrong low = record {
   wrong = subst (λ j. IsWrong j o e.at) (sym same) wrong;
   least = λ at w. low at (subst (λ j. IsWrong j o at) same w);
@@ -60,7 +60,7 @@ pub past_double : (o : Outline) → IsClear 8 o → double o ≡ [] → IsClear 
 past_double o c a = record { repeated = λ l. c.repeated (omega arith); unknown = λ l. c.unknown (omega arith); rows = λ l. c.rows (omega arith); mixed = λ l. c.mixed (omega arith); widths = λ l. c.widths (omega arith); cyclic = λ l. c.cyclic (omega arith); double = λ l. a }
 
 -- the same for a rule whose places are a list
-pub told : IsLeast → (o : Outline) (k : PilErrKind) (ns : List ℕ) (found : Option ℕ) (e : PilErr) → IsClear (turn k) o → turn k ≤ 9 → ((at : ℕ) → IsWrong k o at ≡ Contains ns at) → found ≡ least ns → e.kind ≡ k → found ≡ Some e.at → Breaks o e
+pub told : IsLeast → (o : Outline) (k : PilKind) (ns : List ℕ) (found : Option ℕ) (e : PilErr) → IsClear (turn k) o → turn k ≤ 9 → ((at : ℕ) → IsWrong k o at ≡ Contains ns at) → found ≡ least ns → e.kind ≡ k → found ≡ Some e.at → Breaks o e
 told is_least o k ns found e c few same at_least kind at =
     let is : least ns ≡ Some e.at = sym at_least ∙ at in
     breaks o k e c few kind (subst (λ T. T) (sym (same e.at)) (is_least.among ns e.at is)) (λ a w. is_least.lowest ns e.at is a (subst (λ T. T) (same a) w))
@@ -72,7 +72,7 @@ kept is_least ns found at_least none = is_least.none ns (sym at_least ∙ none)
 pub unless : (o : Outline) (e : PilErr) → Breaks o e → UnlessMemory e.kind (Breaks o e)
 unless o e b = by e.kind b
   where
-    by : (k : PilErrKind) → Breaks o e → UnlessMemory k (Breaks o e)
+    by : (k : PilKind) → Breaks o e → UnlessMemory k (Breaks o e)
     by BadByte b = b
     by NumberTooLarge b = b
     by Unexpected b = b
@@ -87,7 +87,7 @@ unless o e b = by e.kind b
     by NoMemory b = tt
 
 -- no rule is broken
-pub right : (o : Outline) → IsClear 9 o → (k : PilErrKind) (at : ℕ) → IsWrong k o at → ⊥
+pub right : (o : Outline) → IsClear 9 o → (k : PilKind) (at : ℕ) → IsWrong k o at → ⊥
 right o c NoMemory at w = w
 right o c BadByte at w = w
 right o c NumberTooLarge at w = w
@@ -106,5 +106,5 @@ pub nothing : (ns : List ℕ) → ((at : ℕ) → Contains ns at → ⊥) → ns
 nothing [] h = refl
 nothing (n ∷ ns) h = absurd (h n (0, omega arith, refl))
 
-pub clear_of : (o : Outline) → ((k : PilErrKind) (at : ℕ) → IsWrong k o at → ⊥) → IsClear 9 o
+pub clear_of : (o : Outline) → ((k : PilKind) (at : ℕ) → IsWrong k o at → ⊥) → IsClear 9 o
 clear_of o h = record { repeated = λ l. nothing (repeated o) (h Repeated); unknown = λ l. nothing (unknown o) (h UnknownName); rows = λ l. nothing (bad_rows o) (h BadRow); mixed = λ l. nothing (mixed o) (h Mixed); widths = λ l. nothing (wrong_widths o) (h WrongWidth); cyclic = λ l. h CyclicPol; double = λ l. nothing (double o) (h DoubleMark) }

@@ -11,8 +11,8 @@ use Rattle.pil_meaning.specs.Marks.{double}
 use Rattle.pil_meaning.specs.Closed.{IsClosed}
 use Rattle.pil_meaning.specs.Fitting.{Fits}
 use Rattle.pil_text.specs.declared.error.PilErr.{PilErr}
-use Rattle.pil_text.specs.declared.error.PilErrKind.{PilErrKind}
-use Rattle.pil_text.specs.declared.error.PilErrKind.TheVariants.{BadByte, NumberTooLarge, Unexpected, TooDeep, Repeated, UnknownName, BadRow, Mixed, WrongWidth, CyclicPol, DoubleMark, NoMemory}
+use Rattle.pil_text.specs.declared.error.PilKind.{PilKind}
+use Rattle.pil_text.specs.declared.error.PilKind.TheVariants.{BadByte, NumberTooLarge, Unexpected, TooDeep, Repeated, UnknownName, BadRow, Mixed, WrongWidth, CyclicPol, DoubleMark, NoMemory}
 
 -- the place of an item's name in its declaration
 abbrev pub place_of : Draft → ℕ
@@ -32,7 +32,7 @@ abbrev pub IsCyclic : Outline → ℕ → Type 0
 IsCyclic o at = (s : ℕ) × IsCyclicIn o s at
 
 -- a rule is broken at this place
-abbrev pub IsWrong : PilErrKind → Outline → ℕ → Type 0
+abbrev pub IsWrong : PilKind → Outline → ℕ → Type 0
 IsWrong Repeated o at = Contains (repeated o) at
 IsWrong UnknownName o at = Contains (unknown o) at
 IsWrong BadRow o at = Contains (bad_rows o) at
@@ -43,7 +43,7 @@ IsWrong DoubleMark o at = Contains (double o) at
 IsWrong _ o at = ⊥
 
 -- the order in which the rules are tested
-abbrev pub turn : PilErrKind → ℕ
+abbrev pub turn : PilKind → ℕ
 turn BadByte = 0
 turn NumberTooLarge = 0
 turn Unexpected = 1
@@ -59,14 +59,14 @@ turn NoMemory = 9
 
 -- the text breaks no rule, and means this
 pub record Means (o : Outline) (ns : List Namespace) : Type 0 where
-  pub right : (k : PilErrKind) (at : ℕ) → IsWrong k o at → ⊥
+  pub right : (k : PilKind) (at : ℕ) → IsWrong k o at → ⊥
   pub meant : ns ≡ meaning o
 
 -- the text breaks this rule first, at this place first
 pub record Breaks (o : Outline) (e : PilErr) : Type 0 where
   pub wrong : IsWrong e.kind o e.at
   pub least : (at : ℕ) → IsWrong e.kind o at → e.at ≤ at
-  pub first : (k : PilErrKind) (at : ℕ) → turn k < turn e.kind → IsWrong k o at → ⊥
+  pub first : (k : PilKind) (at : ℕ) → turn k < turn e.kind → IsWrong k o at → ⊥
 
 -- the rules that are tested before the n-th are kept
 pub record IsClear (n : ℕ) (o : Outline) : Type 0 where
@@ -87,7 +87,7 @@ abbrev pub HasPlace : PilErr → Type 0
 HasPlace e = e.kind ≡ NoMemory → e.at ≡ 0
 
 -- a fact about a refusal, which says nothing where memory ran out
-abbrev pub UnlessMemory : PilErrKind → Type 0 → Type 0
+abbrev pub UnlessMemory : PilKind → Type 0 → Type 0
 UnlessMemory NoMemory P = Unit {0}
 UnlessMemory _ P = P
 

@@ -15,16 +15,16 @@ use Rattle.pil_syntax.specs.Refusal as grammar
 use Rattle.pil_ast.specs.Term.{Namespace}
 use Rattle.pil_names.specs.Outline.{outline_of}
 use Rattle.pil_text.specs.declared.error.PilErr.{PilErr}
-use Rattle.pil_text.specs.declared.error.PilErrKind.{PilErrKind}
-use Rattle.pil_text.specs.declared.error.PilErrKind.TheVariants.{BadByte, NumberTooLarge, Unexpected, TooDeep, NoMemory}
+use Rattle.pil_text.specs.declared.error.PilKind.{PilKind}
+use Rattle.pil_text.specs.declared.error.PilKind.TheVariants.{BadByte, NumberTooLarge, Unexpected, TooDeep, NoMemory}
 use Rattle.pil_text.specs.Refusal.{Means, Breaks}
 
-abbrev pub kind_of_lex : LexKind → PilErrKind
+abbrev pub kind_of_lex : LexKind → PilKind
 kind_of_lex lex.BadByte = BadByte
 kind_of_lex lex.NumberTooLarge = NumberTooLarge
 kind_of_lex lex.NoMemory = NoMemory
 
-abbrev pub kind_of_syntax : SyntaxErrKind → PilErrKind
+abbrev pub kind_of_syntax : SyntaxErrKind → PilKind
 kind_of_syntax syntax.Unexpected = Unexpected
 kind_of_syntax syntax.TooDeep = TooDeep
 kind_of_syntax syntax.NoMemory = NoMemory

@@ -1,6 +1,6 @@
 //! Why a text is refused.
 ghost use Rattle.std.specs.Prelude.{◌≡◌};
-ghost use Rattle.pil_text.specs.declared.error.PilErrKind.TheVariants.{NoMemory};
+ghost use Rattle.pil_text.specs.declared.error.PilKind.TheVariants.{NoMemory};
 
 use std::alloc::{AllocError, AllocFailed};
 use thiserror::Error;
@@ -8,7 +8,7 @@ use thiserror::Error;
 /// Which rule a text breaks (docs/PIL.md, "Refusals"), in the order in which the rules are tested; each is told at
 /// the least offset at which it is broken.
 #[derive(Clone, Copy, Debug, PartialEq, Eq, Error)]
-pub enum PilErrKind {
+pub enum PilKind {
     /// A byte begins no token, or a `/*` isn't closed.
     #[error("no token begins here")]
     BadByte,
@@ -53,7 +53,7 @@ pub enum PilErrKind {
 #[derive(Clone, Copy, Debug, PartialEq, Eq, Error)]
 #[error("{kind} at {at}")]
 pub struct PilErr {
-    pub kind: PilErrKind,
+    pub kind: PilKind,
     pub at: u64,
 }
 
@@ -62,7 +62,7 @@ impl From<AllocError> for PilErr {
 
     fn from(_e: AllocError) -> PilErr {
         PilErr {
-            kind: PilErrKind::NoMemory,
+            kind: PilKind::NoMemory,
             at: 0,
         }
     }
@@ -73,7 +73,7 @@ impl<T: Drop> From<AllocFailed<T>> for PilErr {
 
     fn from(_e: AllocFailed<T>) -> PilErr {
         PilErr {
-            kind: PilErrKind::NoMemory,
+            kind: PilKind::NoMemory,
             at: 0,
         }
     }

@@ -10,7 +10,7 @@ mod rules;
 #[cfg(test)]
 mod tests;
 
-pub use error::{PilErr, PilErrKind};
+pub use error::{PilErr, PilKind};
 pub use laws::{computed_reads, one_answer, printed_reads_back, readings_are_sound};
 pub use pil_print::print;
 pub use reading::read;

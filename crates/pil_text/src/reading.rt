@@ -7,7 +7,7 @@ ghost use Rattle.pil_ast.specs.Sound.{IsSound};
 ghost use Rattle.pil_text.specs.Refusal.{HasPlace, UnlessMemory, no_memory};
 ghost use Rattle.pil_text.specs.Text.{Reads, Fails, IsShort, Spells, kind_of_lex, kind_of_syntax};
 
-use crate::error::{PilErr, PilErrKind};
+use crate::error::{PilErr, PilKind};
 use crate::laws::one_answer;
 use crate::resolve::resolve;
 use pil_ast::Pil;
@@ -24,9 +24,9 @@ fn as_tokens(error: LexErr) -> PilErr
     ensures at { result.at ≡ error.at }
 {
     let kind = match error.kind {
-        LexKind::BadByte => PilErrKind::BadByte,
-        LexKind::NumberTooLarge => PilErrKind::NumberTooLarge,
-        LexKind::NoMemory => PilErrKind::NoMemory,
+        LexKind::BadByte => PilKind::BadByte,
+        LexKind::NumberTooLarge => PilKind::NumberTooLarge,
+        LexKind::NoMemory => PilKind::NoMemory,
     };
     PilErr { kind, at: error.at }
 }
@@ -37,9 +37,9 @@ fn as_file(error: SyntaxErr) -> PilErr
     ensures at { result.at ≡ error.at }
 {
     let kind = match error.kind {
-        SyntaxErrKind::Unexpected => PilErrKind::Unexpected,
-        SyntaxErrKind::TooDeep => PilErrKind::TooDeep,
-        SyntaxErrKind::NoMemory => PilErrKind::NoMemory,
+        SyntaxErrKind::Unexpected => PilKind::Unexpected,
+        SyntaxErrKind::TooDeep => PilKind::TooDeep,
+        SyntaxErrKind::NoMemory => PilKind::NoMemory,
     };
     PilErr { kind, at: error.at }
 }
@@ -85,7 +85,7 @@ fn parse(alloc: Global, text: &[u8]) -> Result<Pil, PilErr>
 ///
 /// # Errors
 ///
-/// The first rule that the text breaks, in the order of [`PilErrKind`], with the least offset at which it
+/// The first rule that the text breaks, in the order of [`PilKind`], with the least offset at which it
 /// does, or `NoMemory` at 0.
 pub fn read(alloc: Global, text: &[u8]) -> Result<Pil, PilErr>
     requires { IsShort text.now }

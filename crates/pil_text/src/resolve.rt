@@ -7,7 +7,7 @@ ghost use Rattle.pil_meaning.specs.Meaning.{meaning};
 ghost use Rattle.pil_text.specs.Refusal.{Breaks, BreaksOrClears, HasPlace, IsClear, IsReadable, UnlessMemory};
 
 use crate::cycles::least_cyclic;
-use crate::error::{PilErr, PilErrKind};
+use crate::error::{PilErr, PilKind};
 use crate::rules::{check_names, refusal};
 use pil_ast::Pil;
 use pil_cycles::without_cycle_are_ranked;
@@ -32,10 +32,10 @@ fn check_tree(
     least_is_least();
     without_cycle_are_ranked();
     if let Some(at) = least_cyclic(alloc, outline, pil)? {
-        return Err(refusal(PilErrKind::CyclicPol, at));
+        return Err(refusal(PilKind::CyclicPol, at));
     }
     if let Some(at) = least_double_mark(alloc, outline, directory, pil)? {
-        return Err(refusal(PilErrKind::DoubleMark, at));
+        return Err(refusal(PilKind::DoubleMark, at));
     }
     Ok(())
 }

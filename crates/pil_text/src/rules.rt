@@ -6,7 +6,7 @@ ghost use Rattle.pil_names.specs.Directory.{IsCountable, IsDirectory};
 ghost use Rattle.pil_names.specs.Shown.{outlined};
 ghost use Rattle.pil_text.specs.Refusal.{BreaksOrClears, HasPlace};
 
-use crate::error::{PilErr, PilErrKind};
+use crate::error::{PilErr, PilKind};
 use pil_names::{
     Directory, Outline, least_bad_row, least_is_least, least_mixed, least_unknown,
     least_wrong_width,
@@ -26,25 +26,25 @@ pub fn check_names(
 {
     least_is_least();
     if let Some(at) = repeated {
-        return Err(refusal(PilErrKind::Repeated, at));
+        return Err(refusal(PilKind::Repeated, at));
     }
     if let Some(at) = least_unknown(outline, directory) {
-        return Err(refusal(PilErrKind::UnknownName, at));
+        return Err(refusal(PilKind::UnknownName, at));
     }
     if let Some(at) = least_bad_row(outline, directory) {
-        return Err(refusal(PilErrKind::BadRow, at));
+        return Err(refusal(PilKind::BadRow, at));
     }
     if let Some(at) = least_mixed(outline, directory) {
-        return Err(refusal(PilErrKind::Mixed, at));
+        return Err(refusal(PilKind::Mixed, at));
     }
     if let Some(at) = least_wrong_width(outline) {
-        return Err(refusal(PilErrKind::WrongWidth, at));
+        return Err(refusal(PilKind::WrongWidth, at));
     }
     Ok(())
 }
 
 /// The refusal of a rule at a place.
-pub fn refusal(kind: PilErrKind, at: u64) -> PilErr
+pub fn refusal(kind: PilKind, at: u64) -> PilErr
     ensures kind { result.kind ≡ kind }
     ensures at { result.at ≡ at }
 {

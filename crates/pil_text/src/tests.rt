@@ -4,7 +4,7 @@ ghost use Rattle.std.specs.Prelude.{IfOk};
 ghost use Rattle.pil_ast.specs.Tree.{namespaces};
 ghost use Rattle.pil_ast.specs.Sound.{IsSound};
 
-use crate::error::{PilErr, PilErrKind};
+use crate::error::{PilErr, PilKind};
 use crate::reading::read;
 use pil_ast::{Expr, Item, Pil};
 use pil_print::print;
@@ -17,7 +17,7 @@ fn read_short(alloc: Global, text: &[u8]) -> Result<Pil, PilErr>
 {
     if text.len() > 1 << 20 {
         return Err(PilErr {
-            kind: PilErrKind::NoMemory,
+            kind: PilKind::NoMemory,
             at: 0,
         });
     }
@@ -32,7 +32,7 @@ fn refusal(alloc: Global, text: &[u8]) -> Option<PilErr> {
     }
 }
 
-fn because(kind: PilErrKind, at: u64) -> Option<PilErr> {
+fn because(kind: PilKind, at: u64) -> Option<PilErr> {
     Some(PilErr { kind, at })
 }
 
@@ -85,62 +85,62 @@ fn backwards(alloc: Global, count: u32, told: &[u8]) -> Result<Vec<u8>, AllocErr
 fn refuses_by_each_rule(rt: HostRuntime) -> Result<(), Fail> {
     assert_eq!(rt;
         refusal(rt.alloc(), b"namespace A(2); pol commit x; x = #;"),
-        because(PilErrKind::BadByte, 34)
+        because(PilKind::BadByte, 34)
     );
     assert_eq!(rt;
         refusal(
             rt.alloc(),
             b"namespace A(2); pol commit x; x = 18446744069414584321;"
         ),
-        because(PilErrKind::NumberTooLarge, 34)
+        because(PilKind::NumberTooLarge, 34)
     );
     assert_eq!(rt;
         refusal(rt.alloc(), b"namespace A(2); pol commit x; x = ;"),
-        because(PilErrKind::Unexpected, 34)
+        because(PilKind::Unexpected, 34)
     );
     assert_eq!(rt;
         refusal(
             rt.alloc(),
             b"namespace A(2); pol z = (((((((((((((((((((((((((((((((((1)))))))))))))))))))))))))))))))));"
         ),
-        because(PilErrKind::TooDeep, 56)
+        because(PilKind::TooDeep, 56)
     );
     assert_eq!(rt;
         refusal(rt.alloc(), b"namespace A(2); pol commit x; pol commit x;"),
-        because(PilErrKind::Repeated, 41)
+        because(PilKind::Repeated, 41)
     );
     assert_eq!(rt;
         refusal(rt.alloc(), b"namespace A(2); pol commit x; x = y;"),
-        because(PilErrKind::UnknownName, 34)
+        because(PilKind::UnknownName, 34)
     );
     assert_eq!(rt;
         refusal(rt.alloc(), b"namespace A(0);"),
-        because(PilErrKind::BadRow, 12)
+        because(PilKind::BadRow, 12)
     );
     assert_eq!(rt;
         refusal(
             rt.alloc(),
             b"namespace A(2); pol commit x; namespace B(4); pol s = A.x;"
         ),
-        because(PilErrKind::Mixed, 56)
+        because(PilKind::Mixed, 56)
     );
     assert_eq!(rt;
         refusal(
             rt.alloc(),
             b"namespace A(2); pol commit x; { x, 1 } in { x };"
         ),
-        because(PilErrKind::WrongWidth, 42)
+        because(PilKind::WrongWidth, 42)
     );
     assert_eq!(rt;
         refusal(rt.alloc(), b"namespace A(2); pol s = t; pol t = s;"),
-        because(PilErrKind::CyclicPol, 20)
+        because(PilKind::CyclicPol, 20)
     );
     assert_eq!(rt;
         refusal(
             rt.alloc(),
             b"namespace A(2); pol commit x; pol a = x'; pol b = a';"
         ),
-        because(PilErrKind::DoubleMark, 51)
+        because(PilKind::DoubleMark, 51)
     );
     Ok(())
 }
@@ -149,61 +149,61 @@ fn refuses_by_each_rule(rt: HostRuntime) -> Result<(), Fail> {
 fn lets_the_first_rule_decide(rt: HostRuntime) -> Result<(), Fail> {
     assert_eq!(rt;
         refusal(rt.alloc(), b"namespace A(18446744069414584321); #"),
-        because(PilErrKind::NumberTooLarge, 12)
+        because(PilKind::NumberTooLarge, 12)
     );
     assert_eq!(rt;
         refusal(rt.alloc(), b"namespace A(# 18446744069414584321);"),
-        because(PilErrKind::BadByte, 12)
+        because(PilKind::BadByte, 12)
     );
     assert_eq!(rt;
         refusal(rt.alloc(), b"x = 1; #"),
-        because(PilErrKind::BadByte, 7)
+        because(PilKind::BadByte, 7)
     );
     assert_eq!(rt;
         refusal(
             rt.alloc(),
             b"namespace A(2); pol commit x; pol commit x; x = ;"
         ),
-        because(PilErrKind::Unexpected, 48)
+        because(PilKind::Unexpected, 48)
     );
     assert_eq!(rt;
         refusal(
             rt.alloc(),
             b"namespace A(2); pol commit x; x = y; pol commit x;"
         ),
-        because(PilErrKind::Repeated, 48)
+        because(PilKind::Repeated, 48)
     );
     assert_eq!(rt;
         refusal(
             rt.alloc(),
             b"namespace A(2); pol commit x; namespace B(4); pol s = A.x; pol t = z;"
         ),
-        because(PilErrKind::UnknownName, 67)
+        because(PilKind::UnknownName, 67)
     );
     assert_eq!(rt;
         refusal(
             rt.alloc(),
             b"namespace A(2); pol commit x; namespace B(4); pol s = A.x; namespace C(0);"
         ),
-        because(PilErrKind::BadRow, 71)
+        because(PilKind::BadRow, 71)
     );
     assert_eq!(rt;
         refusal(
             rt.alloc(),
             b"namespace A(2); pol commit x[4097]; namespace B(4); pol s = A.x[0];"
         ),
-        because(PilErrKind::Mixed, 62)
+        because(PilKind::Mixed, 62)
     );
     assert_eq!(rt;
         refusal(rt.alloc(), b"namespace A(2); pol s = s; { s, 1 } in { s };"),
-        because(PilErrKind::WrongWidth, 39)
+        because(PilKind::WrongWidth, 39)
     );
     assert_eq!(rt;
         refusal(
             rt.alloc(),
             b"namespace A(2); pol commit x; pol a = x'; pol b = a'; pol c = c;"
         ),
-        because(PilErrKind::CyclicPol, 58)
+        because(PilKind::CyclicPol, 58)
     );
     Ok(())
 }
@@ -215,53 +215,53 @@ fn refuses_at_the_least_place(rt: HostRuntime) -> Result<(), Fail> {
             rt.alloc(),
             b"constant %n = 1; constant %n = 2; namespace A(2); namespace A(2); pol commit x, x;"
         ),
-        because(PilErrKind::Repeated, 27)
+        because(PilKind::Repeated, 27)
     );
     assert_eq!(rt;
         refusal(
             rt.alloc(),
             b"namespace A(2); pol commit x; public p = x(0); namespace B(2); pol commit x; public p = x(1);"
         ),
-        because(PilErrKind::Repeated, 84)
+        because(PilKind::Repeated, 84)
     );
     assert_eq!(rt;
         refusal(
             rt.alloc(),
             b"namespace A(2); pol commit x[2]; pol s = x[2] + y;"
         ),
-        because(PilErrKind::UnknownName, 43)
+        because(PilKind::UnknownName, 43)
     );
     assert_eq!(rt;
         refusal(
             rt.alloc(),
             b"namespace A(2); pol commit x; public p = x'(0); x = y;"
         ),
-        because(PilErrKind::UnknownName, 41)
+        because(PilKind::UnknownName, 41)
     );
     assert_eq!(rt;
         refusal(
             rt.alloc(),
             b"namespace A(2); pol commit x; public p = x(2); namespace B(0);"
         ),
-        because(PilErrKind::BadRow, 43)
+        because(PilKind::BadRow, 43)
     );
     assert_eq!(rt;
         refusal(rt.alloc(), b"constant %n = 16777217; namespace A(%n);"),
-        because(PilErrKind::BadRow, 37)
+        because(PilKind::BadRow, 37)
     );
     assert_eq!(rt;
         refusal(
             rt.alloc(),
             b"namespace A(2); { 1 } + { 1, 2 } is { 1, 2 }; pol commit x[0];"
         ),
-        because(PilErrKind::WrongWidth, 24)
+        because(PilKind::WrongWidth, 24)
     );
     assert_eq!(rt;
         refusal(
             rt.alloc(),
             b"namespace A(2); pol commit x; pol c = b; pol a = x'; pol b = a; c' = a';"
         ),
-        because(PilErrKind::DoubleMark, 65)
+        because(PilKind::DoubleMark, 65)
     );
     Ok(())
 }
@@ -270,28 +270,28 @@ fn refuses_at_the_least_place(rt: HostRuntime) -> Result<(), Fail> {
 fn finds_what_depends_on_itself(rt: HostRuntime) -> Result<(), Fail> {
     assert_eq!(rt;
         refusal(rt.alloc(), b"namespace A(2); pol s = s';"),
-        because(PilErrKind::CyclicPol, 20)
+        because(PilKind::CyclicPol, 20)
     );
     assert_eq!(rt;
         refusal(
             rt.alloc(),
             b"namespace A(2); pol s = 1; namespace B(4); pol t = u; pol u = t;"
         ),
-        because(PilErrKind::CyclicPol, 47)
+        because(PilKind::CyclicPol, 47)
     );
     assert_eq!(rt;
         refusal(
             rt.alloc(),
             b"namespace A(2); pol b = c; pol a = a + b; pol c = d; pol d = c;"
         ),
-        because(PilErrKind::CyclicPol, 31)
+        because(PilKind::CyclicPol, 31)
     );
     assert_eq!(rt;
         refusal(
             rt.alloc(),
             b"namespace A(2); pol b = a; pol a = d; pol c = b; pol d = a;"
         ),
-        because(PilErrKind::CyclicPol, 31)
+        because(PilKind::CyclicPol, 31)
     );
     assert_eq!(rt;
         refusal(
@@ -312,14 +312,14 @@ fn stops_at_the_limits(rt: HostRuntime) -> Result<(), Fail> {
     let minuses = pieces(alloc, head, b"-", 33, b"1;")?;
     assert_eq!(rt;
         refusal(alloc, minuses.as_slice()),
-        because(PilErrKind::TooDeep, 56)
+        because(PilKind::TooDeep, 56)
     );
     let sum = pieces(alloc, head, b"1*", 128, b"1;")?;
     assert_eq!(rt; refusal(alloc, sum.as_slice()), None);
     let sum = pieces(alloc, head, b"1*", 129, b"1;")?;
     assert_eq!(rt;
         refusal(alloc, sum.as_slice()),
-        because(PilErrKind::TooDeep, 281)
+        because(PilKind::TooDeep, 281)
     );
     assert_eq!(rt;
         refusal(
@@ -350,7 +350,7 @@ fn reads_or_refuses_each_prefix(rt: HostRuntime) -> Result<(), Fail> {
                 assert!(rt; matches!(prefix.trim_ascii_end().last(), None | Some(b';')));
                 whole.push(end)?;
             }
-            Some(error) => assert_eq!(rt; error.kind, PilErrKind::Unexpected),
+            Some(error) => assert_eq!(rt; error.kind, PilKind::Unexpected),
         }
     }
     assert_eq!(rt; refusal(rt.alloc(), text), None);
@@ -391,24 +391,24 @@ fn gives_the_tree(rt: HostRuntime) -> Result<(), Fail> {
 fn refuses_bytes_of_no_token(rt: HostRuntime) -> Result<(), Fail> {
     let alloc = rt.alloc();
     for byte in 128..=255u8 {
-        assert_eq!(rt; refusal(alloc, &[byte]), because(PilErrKind::BadByte, 0));
+        assert_eq!(rt; refusal(alloc, &[byte]), because(PilKind::BadByte, 0));
     }
     assert_eq!(rt;
         refusal(alloc, b"namespace A(2);\x00"),
-        because(PilErrKind::BadByte, 15)
+        because(PilKind::BadByte, 15)
     );
-    assert_eq!(rt; refusal(alloc, &[0; 4096]), because(PilErrKind::BadByte, 0));
+    assert_eq!(rt; refusal(alloc, &[0; 4096]), because(PilKind::BadByte, 0));
     assert_eq!(rt;
         refusal(alloc, b"namespace \xC3\xA9(2);"),
-        because(PilErrKind::BadByte, 10)
+        because(PilKind::BadByte, 10)
     );
     assert_eq!(rt;
         refusal(rt.alloc(), b"namespace A(2); /* pol commit x;"),
-        because(PilErrKind::BadByte, 16)
+        because(PilKind::BadByte, 16)
     );
     assert_eq!(rt;
         refusal(rt.alloc(), b"namespace A(2); /*/"),
-        because(PilErrKind::BadByte, 16)
+        because(PilKind::BadByte, 16)
     );
     assert_eq!(rt;
         refusal(rt.alloc(), b"namespace A(2); // pol commit x"),
@@ -423,14 +423,14 @@ fn survives_long_texts(rt: HostRuntime) -> Result<(), Fail> {
     let opened = pieces(alloc, b"namespace A(2); pol z = ", b"(", 1 << 12, b"")?;
     assert_eq!(rt;
         refusal(alloc, opened.as_slice()),
-        because(PilErrKind::TooDeep, 56)
+        because(PilKind::TooDeep, 56)
     );
     let name = pieces(alloc, b"namespace A(2); pol commit ", b"a", 1 << 14, b";")?;
     assert_eq!(rt; refusal(alloc, name.as_slice()), None);
     let constants = pieces(alloc, b"", b"constant %a = 1;", 1 << 10, b"")?;
     assert_eq!(rt;
         refusal(alloc, constants.as_slice()),
-        because(PilErrKind::Repeated, 26)
+        because(PilKind::Repeated, 26)
     );
     let chain = doublings(alloc, 64)?;
     assert_eq!(rt; refusal(alloc, chain.as_slice()), None);
@@ -447,14 +447,14 @@ fn follows_long_chains_backwards(rt: HostRuntime) -> Result<(), Fail> {
     let ring = backwards(alloc, 300, b"s0")?;
     assert_eq!(rt;
         refusal(alloc, ring.as_slice()),
-        because(PilErrKind::CyclicPol, 34)
+        because(PilKind::CyclicPol, 34)
     );
     let mut marked = backwards(alloc, 300, b"x'")?;
     let at = marked.len() as u64;
     marked.extend_from_slice(b" x = s0';")?;
     assert_eq!(rt;
         refusal(alloc, marked.as_slice()),
-        because(PilErrKind::DoubleMark, at + 7)
+        because(PilKind::DoubleMark, at + 7)
     );
     Ok(())
 }
@@ -463,29 +463,29 @@ fn follows_long_chains_backwards(rt: HostRuntime) -> Result<(), Fail> {
 fn refuses_wrong_lengths_of_arrays(rt: HostRuntime) -> Result<(), Fail> {
     assert_eq!(rt;
         refusal(rt.alloc(), b"namespace A(2); pol commit x[4097];"),
-        because(PilErrKind::WrongWidth, 29)
+        because(PilKind::WrongWidth, 29)
     );
     assert_eq!(rt;
         refusal(rt.alloc(), b"namespace A(2); pol commit x[0];"),
-        because(PilErrKind::WrongWidth, 29)
+        because(PilKind::WrongWidth, 29)
     );
     assert_eq!(rt;
         refusal(
             rt.alloc(),
             b"namespace A(2); pol constant y, x[18446744069414584320];"
         ),
-        because(PilErrKind::WrongWidth, 34)
+        because(PilKind::WrongWidth, 34)
     );
     assert_eq!(rt;
         refusal(
             rt.alloc(),
             b"namespace A(2); pol commit x[18446744069414584320]; x[18446744069414584320] = 1;"
         ),
-        because(PilErrKind::UnknownName, 54)
+        because(PilKind::UnknownName, 54)
     );
     assert_eq!(rt;
         refusal(rt.alloc(), b"namespace A(18446744069414584320);"),
-        because(PilErrKind::BadRow, 12)
+        because(PilKind::BadRow, 12)
     );
     Ok(())
 }

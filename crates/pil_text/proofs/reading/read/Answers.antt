@@ -3,12 +3,12 @@ use Rattle.std.specs.Result.{IfErr}
 use Rattle.std.proofs.lemmas.Result.{IfOk-weaker, IfErr-weaker}
 use Rattle.pil_ast.specs.Tree.{namespaces}
 use Rattle.pil_text.specs.declared.error.PilErr.{PilErr}
-use Rattle.pil_text.specs.declared.error.PilErrKind.{PilErrKind}
-use Rattle.pil_text.specs.declared.error.PilErrKind.TheVariants.{BadByte, NumberTooLarge, Unexpected, TooDeep, Repeated, UnknownName, BadRow, Mixed, WrongWidth, CyclicPol, DoubleMark, NoMemory}
+use Rattle.pil_text.specs.declared.error.PilKind.{PilKind}
+use Rattle.pil_text.specs.declared.error.PilKind.TheVariants.{BadByte, NumberTooLarge, Unexpected, TooDeep, Repeated, UnknownName, BadRow, Mixed, WrongWidth, CyclicPol, DoubleMark, NoMemory}
 use Rattle.pil_text.specs.Refusal.{HasPlace, UnlessMemory, no_memory}
 use Rattle.pil_text.proofs.reading.read.Goals as goal
 
-only_memory : (k : PilErrKind) (P : Type 0) → (P → ⊥) → UnlessMemory k P → k ≡ NoMemory
+only_memory : (k : PilKind) (P : Type 0) → (P → ⊥) → UnlessMemory k P → k ≡ NoMemory
 only_memory NoMemory P f h = refl
 only_memory BadByte P f h = absurd (f h)
 only_memory NumberTooLarge P f h = absurd (f h)

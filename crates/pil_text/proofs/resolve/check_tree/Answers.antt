@@ -1,7 +1,7 @@
 use Rattle.std.proofs.Common.{◌≤◌, Some, refl, sym, ap, ◌∙◌, subst, arith}
 use Rattle.pil_names.specs.Shown.{outlined}
 use Rattle.pil_meaning.specs.Marks.{double, AreWritable}
-use Rattle.pil_text.specs.declared.error.PilErrKind.TheVariants.{CyclicPol, DoubleMark}
+use Rattle.pil_text.specs.declared.error.PilKind.TheVariants.{CyclicPol, DoubleMark}
 use Rattle.pil_text.specs.Refusal.{IsCyclic}
 use Rattle.pil_text.proofs.Order.{unless, breaks, told, past_cyclic}
 use Rattle.pil_text.proofs.Spaces.{none_cyclic, cyclic_at, cyclic_least, writable}

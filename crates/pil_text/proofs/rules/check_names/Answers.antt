@@ -1,7 +1,7 @@
 use Rattle.std.proofs.Common.{Some, refl, sym, ap, ◌∙◌, arith}
 use Rattle.pil_names.specs.Wrongs.{repeated, unknown, bad_rows, mixed, wrong_widths}
 use Rattle.pil_names.specs.Shown.{outlined}
-use Rattle.pil_text.specs.declared.error.PilErrKind.TheVariants.{Repeated, UnknownName, BadRow, Mixed, WrongWidth}
+use Rattle.pil_text.specs.declared.error.PilKind.TheVariants.{Repeated, UnknownName, BadRow, Mixed, WrongWidth}
 use Rattle.pil_text.proofs.Order.{unless, told, kept, start, past_repeated, past_unknown, past_rows, past_mixed}
 use Rattle.pil_text.proofs.rules.check_names.Goals as goal
 
