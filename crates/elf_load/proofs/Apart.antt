@@ -100,7 +100,7 @@ pairs_from file P h i j d l q =
     subst (λ x. P x (get_or (headers_of file) j d)) (sym (header_is file i d i_in))
     (subst (λ y. P (header file i) y) (sym (header_is file j d j_in)) (h i j l j_in))
 
-covered_memory : (h : ProgramHeader) (a : ℕ) → Covers h a → has_memory h ≡ true
+pub covered_memory : (h : ProgramHeader) (a : ℕ) → Covers h a → has_memory h ≡ true
 covered_memory h a c = and_from _ _ c.0 (lt-ltb 0 h.p_memsz (omega (arith, c.1, c.2)))
 
 at_or_below : (a b : ℕ) → (a ≤ b) ⊎ (b < a)

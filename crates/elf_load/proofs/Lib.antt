@@ -2,6 +2,7 @@ pub mod Order
 pub mod Headers
 pub mod Apart
 pub mod Partners
+pub mod Meeting
 pub mod Placing
 pub mod Unique
 pub mod Decided

@@ -4,3 +4,4 @@ pub mod Refusal
 pub mod Loads
 pub mod Progress
 pub mod Layout
+pub mod Extents

@@ -1,14 +1,15 @@
 //! Where the segments lie.
-ghost use Rattle.std.specs.Prelude.{◌≡◌, ◌<◌, ◌^◌, ◌↔◌, length, filter, position, IsTrue, MatchOption, IfSome, OnOk, IfOk, IfErr};
+ghost use Rattle.std.specs.Prelude.{◌≡◌, ◌<◌, ◌^◌, ◌↔◌, length, filter, position, IsTrue, IfSome, OnOk, IfOk, IfErr};
 ghost use Rattle.std.specs.List.{AllAdjacentBelow};
 ghost use Rattle.elf_load.specs.File.{headers_of};
 ghost use Rattle.elf_load.specs.Header.{has_memory};
 ghost use Rattle.elf_load.specs.Refusal.{Refused};
-ghost use Rattle.elf_load.specs.Progress.{PassesFirst};
-ghost use Rattle.elf_load.specs.Layout.{is_in_window, Ascends, EndsBefore, HasNoPartner, IsPartner, NoneOverlaps};
+ghost use Rattle.elf_load.specs.Progress.{PassesFirst, IsAnswer};
+ghost use Rattle.elf_load.specs.Layout.{is_in_window, Ascends, EndsBefore};
 
 use crate::error::ElfErr;
 use crate::header::ProgramHeader;
+use crate::overlap::{by_start, first_overlap};
 use std::alloc::{AllocError, Global};
 
 // The headers of the segments with memory.
@@ -41,31 +42,6 @@ fn are_apart(segments: &[ProgramHeader]) -> bool
     segments.is_sorted_by(|a, b| a.end() <= u128::from(b.p_vaddr))
 }
 
-// The first header after the i-th whose segment overlaps that of the i-th.
-fn partner(headers: &[ProgramHeader], i: usize) -> Option<usize>
-    requires { i < length headers.now }
-    ensures { MatchOption result (HasNoPartner headers.now i (length headers.now)) (IsPartner headers.now i) }
-{
-    for j in i + 1..headers.len() {
-        if headers[i].overlaps(&headers[j]) {
-            return Some(j);
-        }
-    }
-    None
-}
-
-// The first header that has a partner after it, and that partner.
-fn first_overlap(headers: &[ProgramHeader]) -> Option<(usize, usize)>
-    ensures { MatchOption result (NoneOverlaps headers.now (length headers.now)) (λ p. NoneOverlaps headers.now p.0 × IsPartner headers.now p.0 p.1) }
-{
-    for i in 0..headers.len() {
-        if let Some(j) = partner(headers, i) {
-            return Some((i, j));
-        }
-    }
-    None
-}
-
 fn first_in_window(headers: &[ProgramHeader]) -> Option<usize>
     ensures first { result ≡ position is_in_window headers.now }
     ensures within { IfSome result (λ i. i < length headers.now) }
@@ -75,6 +51,7 @@ fn first_in_window(headers: &[ProgramHeader]) -> Option<usize>
 
 /// That no two segments share an address. Where some do, neighbours in ascending order do.
 pub(crate) fn check_overlaps(
+    alloc: Global,
     file: &[u8],
     headers: &[ProgramHeader],
     segments: &[ProgramHeader],
@@ -84,12 +61,13 @@ pub(crate) fn check_overlaps(
     requires passed { PassesFirst 9 file.now }
     requires ascends { Ascends headers.now segments.now }
     ensures ok { OnOk result (PassesFirst 10 file.now) }
-    ensures err { IfErr result (Refused file.now) }
+    ensures err { IfErr result (IsAnswer file.now) }
 {
     if are_apart(segments) {
         return Ok(());
     }
-    match first_overlap(headers) {
+    let extents = by_start(alloc, headers)?;
+    match first_overlap(headers, &extents) {
         Some((i, j)) => Err(ElfErr::Overlap(i as u16, j as u16)),
         None => Ok(()),
     }

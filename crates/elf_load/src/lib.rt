@@ -8,6 +8,7 @@ mod header;
 mod laws;
 mod layout;
 mod loading;
+mod overlap;
 mod program_headers;
 #[cfg(test)]
 mod tests;

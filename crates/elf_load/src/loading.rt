@@ -123,7 +123,7 @@ pub fn load(alloc: Global, file: &[u8], input: &[u8]) -> Result<Image, ElfErr>
     let headers = program_headers(alloc, file)?;
     check_headers(file, &headers)?;
     let segments = by_address(alloc, &headers)?;
-    check_overlaps(file, &headers, &segments)?;
+    check_overlaps(alloc, file, &headers, &segments)?;
     check_windows(file, &headers)?;
     check_load(file, &headers)?;
     Ok(image_of(alloc, file, &segments, input)?)

@@ -1,5 +1,5 @@
 use Rattle.elf_load.specs.Layout.{NoneOverlaps}
-use Rattle.elf_load.proofs.layout.first_overlap.Given as goal
+use Rattle.elf_load.proofs.overlap.overlap_from.Given as goal
 
 abbrev pub invariant-loop-i : goal.invariant-loop-i
 invariant-loop-i l = NoneOverlaps l.headers l.i

@@ -1,5 +1,5 @@
 use Rattle.elf_load.specs.Layout.{HasNoPartner}
-use Rattle.elf_load.proofs.layout.partner.Given as goal
+use Rattle.elf_load.proofs.overlap.partner.Given as goal
 
 abbrev pub invariant-loop-j : goal.invariant-loop-j
 invariant-loop-j l = HasNoPartner l.headers l.i l.j
