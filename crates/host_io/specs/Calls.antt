@@ -42,3 +42,12 @@ pub record HasWrittenFront (old new : World) (slot : ℕ) (bytes : List ℕ) : T
 pub record HasReportedFront (old new : World) (bytes : List ℕ) : Type 0 where
   pub count : ℕ
   pub after : new ≡ after_report old (take count bytes)
+
+-- at most so many bytes came, which were given after those that were given before; where the host tells contents they are all that
+-- was left of the slot
+pub record HasGiven {A : Type 0} (max : ℕ) (before after : A → List ℕ → Type 0) (tells : Type 0) (old new : World) (slot : ℕ) : Type 0 where
+  pub bytes : List ℕ
+  pub fits : length bytes ≤ max
+  pub all : tells → bytes ≡ old.left slot
+  pub taken : tells → new ≡ after_read old slot (length bytes)
+  pub given : (start : A) (front : List ℕ) → before start front → after start (front ++ bytes)

@@ -8,6 +8,7 @@ mod host;
 mod mem_host;
 mod os_host;
 mod reading;
+mod sink;
 mod slots;
 mod writing;
 
@@ -15,8 +16,12 @@ pub use call::HostCall;
 pub use host::{Host, HostErr, Slot};
 pub use mem_host::MemHost;
 pub use os_host::OsHost;
-pub use reading::{ReadErr, read_all};
+pub use reading::{ReadErr, read_all, read_into};
+pub use sink::Sink;
 pub use writing::{WriteErr, report_all, write_all};
+
+#[cfg(test)]
+mod os_host_tests;
 
 #[cfg(test)]
 mod tests {

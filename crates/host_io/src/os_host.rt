@@ -23,7 +23,7 @@ pub enum OsSlot<F> {
 pub struct OsHost<'a, R: Files + Print> {
     rt: &'a R,
     slots: Vec<OsSlot<R::File>>,
-    pub faults: u64,
+    faults: u64,
 }
 
 impl<'a, R: Files + Print> OsHost<'a, R> {
