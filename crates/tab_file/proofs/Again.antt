@@ -261,12 +261,13 @@ front_again bytes form profile airs its bits s =
 -- ---- from the numbers of instances on
 
 -- no item fails, and the tables are the ones that are read
-record IsBody (bytes : List ℕ) (start : ℕ) (machine : Bool) (tables : List Table) (fs : List AirShape) : Type 0 where
+record IsBody (bytes : List ℕ) (start : ℕ) (machine : Bool) (cs : List ℕ) (tables : List Table) (fs : List AirShape) : Type 0 where
+  pub counts : numbers_from w32 bytes start (length fs) ≡ cs
   pub fine : first_failure bytes start (body_items machine fs (numbers_from w32 bytes start (length fs))) ≡ None
   pub same : body_tables bytes start fs (numbers_from w32 bytes start (length fs)) ≡ tables
 
 body_again : (bytes : List ℕ) (start : ℕ) (machine : Bool) (fs : List AirShape) (cs : List ℕ) (tables : List Table) (next : ℕ) → AreCounts machine 0 fs cs → Fill (places_from 0 fs cs) tables
-    → Stands bytes start (flat_map number cs) next → Stands bytes next (instances_text fs tables) (length bytes) → IsBody bytes start machine tables fs
+    → Stands bytes start (flat_map number cs) next → Stands bytes next (instances_text fs tables) (length bytes) → IsBody bytes start machine cs tables fs
 body_again bytes start machine fs cs tables next counts fill front rest =
     let counted = counts_again bytes start machine 0 fs cs next counts front in
     let at = start + 4 * length fs in
@@ -278,6 +279,7 @@ body_again bytes start machine fs cs tables next counts fill front rest =
     let at_last : first_failure bytes at (last cs) ≡ None =
     ap (first_failure bytes at) (sym (append-nil (last cs))) ∙ read.0.rest [] ∙ ends_whole bytes end (omega (arith, read.2)) in
     record {
+      counts = numbers;
       fine = counted.0.rest (last (numbers_from w32 bytes start (length fs))) ∙ ap (λ (ds : List ℕ). first_failure bytes at (last ds)) numbers ∙ at_last;
       same = ap (λ (ds : List ℕ). tables_from bytes at (places_from 0 fs ds)) numbers ∙ read.1;
     }
@@ -295,6 +297,7 @@ stands_all bytes text e = record {
 pub record IsRead (bytes : List ℕ) (shape : Shape) (witness : Witness) : Type 0 where
   pub fine : first_failure bytes 0 (items bytes shape) ≡ None
   pub same : promised bytes shape ≡ witness
+  pub counts : counts_of shape witness ≡ promised_counts bytes shape
 
 pub file_again : (bytes : List ℕ) (shape : Shape) (witness : Witness) → TabReads bytes shape witness → IsRead bytes shape witness
 file_again bytes shape witness reads =
@@ -316,8 +319,9 @@ file_again bytes shape witness reads =
     let first = front_again bytes form profile airs reads.shaped.profile reads.shaped.bits s0 in
     let body = body_again bytes (front_end form) (is_machine form) fs cs witness.tables (0 + length whole) reads.shaped.counted reads.shaped.filled s1 (Stands-second bytes 0 (length bytes) whole instances all) in
     let same : airs_of shape witness ≡ promised_airs bytes shape = ap (λ (p : Profile). in_profile p shape.airs) (sym first.told) in
-    let here = subst (λ (gs : List AirShape). IsBody bytes (front_end form) (is_machine form) witness.tables gs) same body in
+    let here = subst (λ (gs : List AirShape). IsBody bytes (front_end form) (is_machine form) cs witness.tables gs) same body in
     record {
       fine = first.pass.rest (body_items (is_machine form) (promised_airs bytes shape) (promised_counts bytes shape)) ∙ here.fine;
       same = sym (promised_is bytes shape profile (front_end form) (promised_airs bytes shape) witness.tables (sym first.told) refl refl (sym here.same));
+      counts = sym here.counts;
     }

@@ -40,12 +40,12 @@ counts_len : (machine : Bool) (a : ℕ) (fs : List AirShape) → items_len (coun
 counts_len machine a [] = refl
 counts_len machine a (f ∷ fs) = omega (arith, counts_len machine (suc a) fs)
 
-front_len : (form : Form) (airs : ℕ) → items_len (front_items form airs) ≡ front_end form
+pub front_len : (form : Form) (airs : ℕ) → items_len (front_items form airs) ≡ front_end form
 front_len Plain airs = refl
 front_len One airs = refl
 front_len Two airs = refl
 
-header_len : (bytes : List ℕ) (shape : Shape) → items_len (header_items bytes shape) ≡ header_end bytes shape
+pub header_len : (bytes : List ℕ) (shape : Shape) → items_len (header_items bytes shape) ≡ header_end bytes shape
 header_len bytes shape =
     let front = front_items shape.form (length shape.airs) in
     let counts = count_items (is_machine shape.form) 0 (promised_airs bytes shape) in
@@ -53,12 +53,12 @@ header_len bytes shape =
 
 -- ---- what the header promises, whatever follows
 
-profile_stays : (bytes more : List ℕ) (form : Form) → profile_end form ≤ length bytes → promised_profile (bytes ++ more) form ≡ promised_profile bytes form
+pub profile_stays : (bytes more : List ℕ) (form : Form) → profile_end form ≤ length bytes → promised_profile (bytes ++ more) form ≡ promised_profile bytes form
 profile_stays bytes more Plain le = refl
 profile_stays bytes more One le = refl
 profile_stays bytes more Two le = ap profile_of (number_stays w32 bytes more 8 le)
 
-before_front : (form : Form) → profile_end form ≤ front_end form
+pub before_front : (form : Form) → profile_end form ≤ front_end form
 before_front Plain = omega arith
 before_front One = omega arith
 before_front Two = omega arith
@@ -66,7 +66,7 @@ before_front Two = omega arith
 airs_stay : (bytes more : List ℕ) (shape : Shape) → front_end shape.form ≤ length bytes → promised_airs (bytes ++ more) shape ≡ promised_airs bytes shape
 airs_stay bytes more shape le = ap (λ (p : Profile). in_profile p shape.airs) (profile_stays bytes more shape.form (omega (arith, le, before_front shape.form)))
 
-counts_stay : (bytes more : List ℕ) (shape : Shape) → header_end bytes shape ≤ length bytes → promised_counts (bytes ++ more) shape ≡ promised_counts bytes shape
+pub counts_stay : (bytes more : List ℕ) (shape : Shape) → header_end bytes shape ≤ length bytes → promised_counts (bytes ++ more) shape ≡ promised_counts bytes shape
 counts_stay bytes more shape le =
     let front : front_end shape.form ≤ length bytes = omega (arith, le) in
     let room : front_end shape.form + length (promised_airs bytes shape) * 4 ≤ length bytes = omega (arith, le) in
@@ -90,7 +90,7 @@ header_passes bytes more shape pass =
     subst (λ (is : List Item). Pass (bytes ++ more) 0 is (header_end (bytes ++ more) shape)) (sym (items_stay bytes more shape front))
     (subst (λ (n : ℕ). Pass (bytes ++ more) 0 (header_items bytes shape) n) (z ∙ sym (end_stays bytes more shape front)) here)
 
-counts_come : (bytes : List ℕ) (shape : Shape) → Pass bytes 0 (header_items bytes shape) (header_end bytes shape) → CountsHaveCome bytes shape
+pub counts_come : (bytes : List ℕ) (shape : Shape) → Pass bytes 0 (header_items bytes shape) (header_end bytes shape) → CountsHaveCome bytes shape
 counts_come bytes shape pass = Pass-AllPass bytes 0 (header_end bytes shape) (header_items bytes shape) pass.rest
 
 -- ---- a header that fails
@@ -126,17 +126,17 @@ header_tab_fails bytes shape e other f =
 
 -- ---- a header that isn't whole
 
-same_err : (a b : TabErr) → Some a ≡ Some b → a ≡ b
+pub same_err : (a b : TabErr) → Some a ≡ Some b → a ≡ b
 same_err a b e = cc
 
 no_error : (e : TabErr) → None ≡ Some e → ⊥
 no_error e h = cc
 
-two : (b : Bool) (d e : TabErr) → d.kind ≢ Short → cond b None (Some d) ≡ Some e → e.kind ≢ Short
+pub two : (b : Bool) (d e : TabErr) → d.kind ≢ Short → cond b None (Some d) ≡ Some e → e.kind ≢ Short
 two true d e h w = absurd (no_error e w)
 two false d e h w = λ k. h (ap (λ (x : TabErr). x.kind) (same_err d e w) ∙ k)
 
-exact_whole : (n : ℕ) (kind : TabKind) (back : ℕ) → kind ≢ Short → IsWholeItem (exactly n kind back)
+pub exact_whole : (n : ℕ) (kind : TabKind) (back : ℕ) → kind ≢ Short → IsWholeItem (exactly n kind back)
 exact_whole n kind back h = record { not_short = λ at v e w. two (eqb v n) (failure kind (at - back)) e h w }
 
 profile_whole : IsWholeItem profile_item
@@ -154,7 +154,7 @@ counts_whole : (machine : Bool) (a : ℕ) (fs : List AirShape) → AreWholeItems
 counts_whole machine a [] = tt
 counts_whole machine a (f ∷ fs) = (count_whole machine a f, counts_whole machine (suc a) fs)
 
-join : (xs ys : List Item) → AreWholeItems xs → AreWholeItems ys → AreWholeItems (xs ++ ys)
+pub join : (xs ys : List Item) → AreWholeItems xs → AreWholeItems ys → AreWholeItems (xs ++ ys)
 join [] ys h k = k
 join (x ∷ xs) ys h k = (h.0, join xs ys h.1 k)
 
@@ -163,14 +163,14 @@ versions_whole Plain = (exact_whole 1 BadVersion 0 (λ q. cc), tt)
 versions_whole One = (exact_whole 1 BadVersion 0 (λ q. cc), tt)
 versions_whole Two = (exact_whole 2 BadVersion 0 (λ q. cc), (profile_whole, tt))
 
-header_whole : (bytes : List ℕ) (shape : Shape) → AreWholeItems (header_items bytes shape)
+pub header_whole : (bytes : List ℕ) (shape : Shape) → AreWholeItems (header_items bytes shape)
 header_whole bytes shape =
     let airs = exactly (length shape.airs) BadAir 0 in
     join (front_items shape.form (length shape.airs)) (count_items (is_machine shape.form) 0 (promised_airs bytes shape))
     (exact_whole 0x5457_4b5a BadMagic 0 (λ q. cc), join (version_items shape.form) (airs ∷ []) (versions_whole shape.form) (exact_whole (length shape.airs) BadAir 0 (λ q. cc), tt))
     (counts_whole (is_machine shape.form) 0 (promised_airs bytes shape))
 
-none_whole : (bytes : List ℕ) (at : ℕ) (ps : List Place) → length bytes < at → whole_from bytes at ps ≡ []
+pub none_whole : (bytes : List ℕ) (at : ℕ) (ps : List Place) → length bytes < at → whole_from bytes at ps ≡ []
 none_whole bytes at [] lt = refl
 none_whole bytes at (q ∷ qs) lt = whole_none bytes at q qs (omega (arith, lt))
 
@@ -198,7 +198,7 @@ told (Some p) bytes form t = (Pass-AllPass bytes 0 (profile_end form) (profile_i
 told_on : (p : Profile) (bytes more : List ℕ) (form : Form) → Told (Some p) bytes form → ProfileHasCome (bytes ++ more) form × (p ≡ promised_profile (bytes ++ more) form)
 told_on p bytes more form t = (AllPass-on bytes more 0 (profile_items form) (Pass-AllPass bytes 0 (profile_end form) (profile_items form) t.1.rest), t.0 ∙ sym (profile_stays bytes more form t.1.whole))
 
-front_has_profile : (bytes : List ℕ) (form : Form) (airs : ℕ) → AllPass bytes 0 (front_items form airs) → ProfileHasCome bytes form
+pub front_has_profile : (bytes : List ℕ) (form : Form) (airs : ℕ) → AllPass bytes 0 (front_items form airs) → ProfileHasCome bytes form
 front_has_profile bytes Plain airs h = tt
 front_has_profile bytes One airs h = tt
 front_has_profile bytes Two airs h = AllPass-front bytes 0 (profile_items Two) (exactly airs BadAir 0 ∷ []) h

@@ -18,3 +18,4 @@ pub mod Extends
 pub mod Readers
 pub mod Feeding
 pub mod Headers
+pub mod Fronts

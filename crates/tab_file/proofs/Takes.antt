@@ -26,7 +26,7 @@ use Rattle.tab_file.proofs.Stands.{Stands, Stands-none, Stands-then, IsBytes, wi
 abbrev none : Option TabErr
 none = None
 
-both_none : (a b : Option TabErr) → option_or a b ≡ None → (a ≡ None) × (b ≡ None)
+pub both_none : (a b : Option TabErr) → option_or a b ≡ None → (a ≡ None) × (b ≡ None)
 both_none None b e = (refl, e)
 both_none (Some x) b e = absurd cc
 
@@ -139,7 +139,7 @@ air_taken bytes at airs a more fits h =
       is,
     )
 
-instance_taken : (bytes : List ℕ) (at airs : ℕ) (place : Place) (more : List Item) → IsBytes bytes → first_failure bytes at (instance_items airs place ++ more) ≡ None
+pub instance_taken : (bytes : List ℕ) (at airs : ℕ) (place : Place) (more : List Item) → IsBytes bytes → first_failure bytes at (instance_items airs place ++ more) ≡ None
     → Text bytes at (instance_text place.form.rows (table_at bytes at place)) (at + instance_len place) more × Fits place (table_at bytes at place)
 instance_taken bytes at airs place more fits h =
     let n = place.form.columns in

@@ -6,7 +6,7 @@ use Rattle.gold.specs.declared.instances.Witness.{Witness}
 use Rattle.gold.specs.declared.shapes.Form.{Form}
 use Rattle.gold.specs.declared.shapes.Form.TheVariants.{Plain, One, Two}
 use Rattle.gold.specs.declared.shapes.Shape.{Shape}
-use Rattle.gold.specs.Shapes.{Place, is_machine, places_from}
+use Rattle.gold.specs.Shapes.{Place, is_machine, counts_of, places_from}
 use Rattle.tab_file.specs.declared.fault.TabKind.TheVariants.{Short, BadMagic}
 use Rattle.tab_file.specs.Items.{Item, wrong_at, first_failure, exactly, count_items}
 use Rattle.tab_file.specs.Reading.{version_items, front_items, front_end, promised_profile, promised_airs, promised_counts, items}
@@ -65,3 +65,16 @@ NoneFailsYet bytes shape = MatchOption (first_failure bytes 0 (items bytes shape
 -- these tables, in the profile that the header tells
 abbrev pub witness_of : List ℕ → Shape → Witness
 witness_of bytes shape = record { profile = promised_profile bytes shape.form; tables = whole_tables bytes shape }
+
+-- the header of bytes has passed, and is that of the bytes with more after them
+pub record SameHeader (bytes longer : List ℕ) (shape : Shape) : Type 0 where
+  pub come : CountsHaveCome longer shape
+  pub profile : promised_profile longer shape.form ≡ promised_profile bytes shape.form
+  pub counts : promised_counts longer shape ≡ promised_counts bytes shape
+
+-- the file's tables are whole and all, and there are as many of each air as its header tells
+pub record IsAllOf (bytes : List ℕ) (shape : Shape) (witness : Witness) : Type 0 where
+  pub come : CountsHaveCome bytes shape
+  pub none : NoneFailsYet bytes shape
+  pub is : witness ≡ witness_of bytes shape
+  pub counts : counts_of shape witness ≡ promised_counts bytes shape

@@ -1,6 +1,6 @@
 //! What holds of all files and tables.
-ghost use Rattle.std.specs.Prelude.{◌≡◌, ◌++◌, ◌<◌, ℕ, List, ◌⊎◌, All, MatchResult, flat_map, slice_index};
-ghost use Rattle.gold.specs.Shapes.{HaveShape};
+ghost use Rattle.std.specs.Prelude.{◌≡◌, ◌++◌, ◌<◌, ℕ, List, [], ◌⊎◌, All, MatchResult, flat_map, length, slice_index, take};
+ghost use Rattle.gold.specs.Shapes.{AreCounts, Fill, HaveShape, is_machine};
 ghost use Rattle.zk_layout.specs.Air.{machine_shape_of};
 ghost use Rattle.gold.specs.declared.instances.Witness.{Witness};
 ghost use Rattle.gold.specs.declared.shapes.Form.TheVariants.{Two};
@@ -8,8 +8,10 @@ ghost use Rattle.gold.specs.declared.shapes.Shape.{Shape};
 ghost use Rattle.tab_file.specs.declared.fault.TabKind.{TabKind};
 ghost use Rattle.tab_file.specs.declared.fault.TabKind.TheVariants.{NoMemory};
 ghost use Rattle.tab_file.specs.Format.{text};
-ghost use Rattle.tab_file.specs.Reading.{TabReads, TabFails};
+ghost use Rattle.tab_file.specs.Reading.{TabReads, TabFails, promised_airs, promised_counts};
 ghost use Rattle.tab_file.specs.Pieces.{head_text, table_text, IsSmall};
+ghost use Rattle.tab_file.specs.Front.{CountsHaveCome, IsAllOf, NoneFailsYet, ProfileHasCome, SameHeader, promised_places, whole_tables};
+ghost use Rattle.tab_file.specs.Stands.{AreBytes};
 
 use crate::{TabErr, read, write};
 use gold::{Form, Witness};
@@ -36,6 +38,23 @@ pub fn one_text()
 pub fn pieces_are_the_text()
     ensures text { (witness : Witness) → HaveShape (machine_shape_of Two) witness → text (machine_shape_of Two) witness ≡ head_text witness ++ flat_map table_text witness.tables }
     ensures small { (witness : Witness) → HaveShape (machine_shape_of Two) witness → All IsSmall witness.tables }
+{}
+
+/// What a file tells of which a front has come.
+pub fn front_laws()
+    // The numbers of instances that have come and passed are allowed ones.
+    ensures counts { (bytes : List ℕ) (shape : Shape) → AreBytes bytes → CountsHaveCome bytes shape → AreCounts (is_machine shape.form) 0 (promised_airs bytes shape) (promised_counts bytes shape) }
+    // The profile has come before them.
+    ensures profile { (bytes : List ℕ) (shape : Shape) → CountsHaveCome bytes shape → ProfileHasCome bytes shape.form }
+    // The tables that are whole stand at the first of the places that these numbers promise.
+    ensures places { (bytes : List ℕ) (shape : Shape) → AreBytes bytes → CountsHaveCome bytes shape → NoneFailsYet bytes shape
+        → Fill (take (length (whole_tables bytes shape)) (promised_places bytes shape)) (whole_tables bytes shape) }
+    // Before these numbers have come no table is whole.
+    ensures none { (bytes : List ℕ) (shape : Shape) → NoneFailsYet bytes shape → (CountsHaveCome bytes shape → ⊥) → whole_tables bytes shape ≡ [] }
+    // What has come of a header stays, whatever follows.
+    ensures later { (bytes more : List ℕ) (shape : Shape) → CountsHaveCome bytes shape → SameHeader bytes (bytes ++ more) shape }
+    // Of a file that reads as tables, they are all whole.
+    ensures all { (bytes : List ℕ) (shape : Shape) (witness : Witness) → TabReads bytes shape witness → IsAllOf bytes shape witness }
 {}
 
 /// What is written of the machine's tables reads as the tables, unless memory runs out.
