@@ -6,7 +6,7 @@ use Rattle.pil_ast.specs.Term.{Tuples, Line, constant, commit, inter, published,
 use Rattle.pil_ast.specs.Sound.{IsItem, IsList, IsSound}
 use Rattle.pil_ast.specs.Holds.{lines}
 use Rattle.pil_laws.proofs.Lines.{item-found, line-found}
-use Rattle.row_check.specs.Breaks.{IsIdentity}
+use Rattle.row_check.specs.Breaks.{IsIdentity, IsIdentityOf}
 use Rattle.bus_check.specs.Bus.{IsBus, IsBusOf, IsListOf}
 
 list-of : (ns : List Namespace) (wide : ℕ) (a : Tuples) → IsList ns wide a → IsListOf ns a
@@ -39,3 +39,16 @@ other-line (bus ls rs) e h = tt
 -- a line that isn't an identity
 pub line-other : (ns : List Namespace) (k : ℕ) (l : Line) → IsSound ns → slice_get (lines ns) k ≡ Some l → (IsIdentity l → ⊥) → IsBus (item_at (lines ns) k)
 line-other ns k l sound e other = subst IsBus (sym (item-found (lines ns) k l e)) (other-line l (line-found ns k l sound e).line other)
+
+identity-of : (ns : List Namespace) (s : ℕ) (l : Line) → IsItem ns s l → IsIdentity l → IsIdentityOf ns l
+identity-of ns s (constant n len) h w = w
+identity-of ns s (commit n len) h w = w
+identity-of ns s (inter n e) h w = w
+identity-of ns s (published n m k r) h w = w
+identity-of ns s (identity m a b) h w = h
+identity-of ns s (lookup a b) h w = w
+identity-of ns s (bus ls rs) h w = w
+
+-- an identity that is found at a number is over a namespace of the text
+pub line-identity : (ns : List Namespace) (k : ℕ) (l : Line) → IsSound ns → slice_get (lines ns) k ≡ Some l → IsIdentity l → IsIdentityOf ns l
+line-identity ns k l sound e is = let some = line-found ns k l sound e in identity-of ns some.space l some.item is

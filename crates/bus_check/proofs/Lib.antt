@@ -4,5 +4,7 @@ pub mod Sorted
 pub mod Places
 pub mod Sent
 pub mod InText
+pub mod Run
+pub mod Once
 pub mod Verdict
 pub mod Readable

@@ -89,16 +89,18 @@ pub fn check_is<C: Columns>(
     line: u32,
     lefts: &[List],
     rights: &[List],
+    inters: &mut RowValues,
 ) -> Result<Option<Broken>, AllocError>
     requires sound { IsSound (namespaces pil.now) }
     requires fits { Fits (namespaces pil.now) (C.values columns.now) }
+    requires made { IsMadeOf (namespaces pil.now) inters.old }
     requires lefts { All (IsListOf (namespaces pil.now)) (map list_of lefts.now) }
     requires rights { All (IsListOf (namespaces pil.now)) (map list_of rights.now) }
-    ensures { IfOk result (λ found. MatchOption found (Holds (namespaces pil.now) (C.values columns.now) (bus (map list_of lefts.now) (map list_of rights.now))) (λ broken. IsBreakOf (namespaces pil.now) (C.values columns.now) (bus (map list_of lefts.now) (map list_of rights.now)) line broken)) }
+    ensures made { IsMadeOf (namespaces pil.now) inters.new }
+    ensures found { IfOk result (λ found. MatchOption found (Holds (namespaces pil.now) (C.values columns.now) (bus (map list_of lefts.now) (map list_of rights.now))) (λ broken. IsBreakOf (namespaces pil.now) (C.values columns.now) (bus (map list_of lefts.now) (map list_of rights.now)) line broken)) }
 {
-    let mut inters = RowValues::new(alloc, pil)?;
-    let left = ordered_side(alloc, pil, columns, lefts, &mut inters)?;
-    let right = ordered_side(alloc, pil, columns, rights, &mut inters)?;
+    let left = ordered_side(alloc, pil, columns, lefts, inters)?;
+    let right = ordered_side(alloc, pil, columns, rights, inters)?;
     match left.difference(&right) {
         None => Ok(None),
         Some(tuple) => {

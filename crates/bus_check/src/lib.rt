@@ -8,11 +8,13 @@ mod lines;
 mod lookups;
 mod order;
 mod rows;
+mod runs;
 mod tuples;
 
 pub use buses::first_difference;
-pub use laws::one_verdict;
+pub use laws::{in_any_order, one_verdict};
 pub use lines::{check_bus, first_broken};
+pub use runs::BusRun;
 pub use tuples::TupleList;
 
 #[cfg(test)]

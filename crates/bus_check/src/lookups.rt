@@ -112,7 +112,8 @@ fn first_missing<C: Columns>(
     requires made { IsMadeOf (namespaces pil.now) inters.old }
     requires list { IsListOf (namespaces pil.now) (list_of left.now) }
     requires right { Ascend right.now }
-    ensures { IfOk result (λ found. MatchOption found (AtEachRow (C.values columns.now) left.now.space (StandsAt (namespaces pil.now) (C.values columns.now) (list_of left.now) right.now)) (λ spot. FailsFirst (C.values columns.now) left.now.space (StandsAt (namespaces pil.now) (C.values columns.now) (list_of left.now) right.now) spot.instance spot.row)) }
+    ensures made { IsMadeOf (namespaces pil.now) inters.new }
+    ensures first { IfOk result (λ found. MatchOption found (AtEachRow (C.values columns.now) left.now.space (StandsAt (namespaces pil.now) (C.values columns.now) (list_of left.now) right.now)) (λ spot. FailsFirst (C.values columns.now) left.now.space (StandsAt (namespaces pil.now) (C.values columns.now) (list_of left.now) right.now) spot.instance spot.row)) }
 {
     for instance in 0..columns.instances(left.space) {
         match first_missing_row(alloc, pil, columns, left, right, instance, inters)? {
@@ -131,16 +132,18 @@ pub fn check_in<C: Columns>(
     line: u32,
     left: &List,
     right: &List,
+    inters: &mut RowValues,
 ) -> Result<Option<Broken>, AllocError>
     requires sound { IsSound (namespaces pil.now) }
     requires fits { Fits (namespaces pil.now) (C.values columns.now) }
+    requires made { IsMadeOf (namespaces pil.now) inters.old }
     requires left { IsListOf (namespaces pil.now) (list_of left.now) }
     requires right { IsListOf (namespaces pil.now) (list_of right.now) }
-    ensures { IfOk result (λ found. MatchOption found (Holds (namespaces pil.now) (C.values columns.now) (lookup (list_of left.now) (list_of right.now))) (λ broken. IsBreakOf (namespaces pil.now) (C.values columns.now) (lookup (list_of left.now) (list_of right.now)) line broken)) }
+    ensures made { IsMadeOf (namespaces pil.now) inters.new }
+    ensures found { IfOk result (λ found. MatchOption found (Holds (namespaces pil.now) (C.values columns.now) (lookup (list_of left.now) (list_of right.now))) (λ broken. IsBreakOf (namespaces pil.now) (C.values columns.now) (lookup (list_of left.now) (list_of right.now)) line broken)) }
 {
-    let mut inters = RowValues::new(alloc, pil)?;
-    let tuples = ordered_list(alloc, pil, columns, right, &mut inters)?;
-    match first_missing(alloc, pil, columns, left, &tuples, &mut inters)? {
+    let tuples = ordered_list(alloc, pil, columns, right, inters)?;
+    match first_missing(alloc, pil, columns, left, &tuples, inters)? {
         None => Ok(None),
         Some(spot) => Ok(Some(Broken::At {
             line,

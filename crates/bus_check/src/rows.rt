@@ -7,6 +7,7 @@ ghost use Rattle.pil_ast.specs.Sound.{IsSound, IsTerm, IsSelector};
 ghost use Rattle.pil_ast.specs.Filled.{IsMadeOf, IsFilled};
 ghost use Rattle.pil_ast.specs.Holds.{selected, tuple, row_sent, sent, all_sent};
 ghost use Rattle.bus_check.specs.Bus.{IsListOf};
+ghost use Rattle.bus_check.specs.Run.{sent_from};
 
 use crate::tuples::TupleList;
 use pil_ast::{Columns, Expr, List, Pil, RowValues, eval};
@@ -188,4 +189,57 @@ pub fn push_lists<C: Columns>(
         push_list(alloc, pil, columns, list, inters, tuples)?;
     }
     Ok(())
+}
+
+/// Puts what the lists of a sum send from an instance of a namespace at the end.
+pub fn push_from<C: Columns>(
+    alloc: Global,
+    pil: &Pil,
+    columns: &C,
+    lists: &[List],
+    space: u32,
+    instance: u32,
+    inters: &mut RowValues,
+    tuples: &mut TupleList,
+) -> Result<(), AllocError>
+    requires sound { IsSound (namespaces pil.now) }
+    requires fits { Fits (namespaces pil.now) (C.values columns.now) }
+    requires made { IsMadeOf (namespaces pil.now) inters.old }
+    requires lists { All (IsListOf (namespaces pil.now)) (map list_of lists.now) }
+    requires space { space < (C.values columns.now).spaces }
+    requires instance { instance < (C.values columns.now).instances space }
+    ensures made { OnOk result (IsMadeOf (namespaces pil.now) inters.new) }
+    ensures sent { OnOk result (tuples.new ≡ tuples.old ++ flat_map (sent_from (namespaces pil.now) (record { columns = C.values columns.now; space = space; instance = instance })) (map list_of lists.now)) }
+{
+    for list in lists {
+        push_list_from(alloc, pil, columns, list, space, instance, inters, tuples)?;
+    }
+    Ok(())
+}
+
+/// Puts what a list sends from an instance of a namespace at the end, where it is over that namespace.
+fn push_list_from<C: Columns>(
+    alloc: Global,
+    pil: &Pil,
+    columns: &C,
+    list: &List,
+    space: u32,
+    instance: u32,
+    inters: &mut RowValues,
+    tuples: &mut TupleList,
+) -> Result<(), AllocError>
+    requires sound { IsSound (namespaces pil.now) }
+    requires fits { Fits (namespaces pil.now) (C.values columns.now) }
+    requires made { IsMadeOf (namespaces pil.now) inters.old }
+    requires list { IsListOf (namespaces pil.now) (list_of list.now) }
+    requires space { space < (C.values columns.now).spaces }
+    requires instance { instance < (C.values columns.now).instances space }
+    ensures made { OnOk result (IsMadeOf (namespaces pil.now) inters.new) }
+    ensures sent { OnOk result (tuples.new ≡ tuples.old ++ sent_from (namespaces pil.now) (record { columns = C.values columns.now; space = space; instance = instance }) (list_of list.now)) }
+{
+    if list.space == space {
+        push_instance(alloc, pil, columns, list, instance, inters, tuples)
+    } else {
+        Ok(())
+    }
 }

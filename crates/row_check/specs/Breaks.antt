@@ -48,3 +48,18 @@ pub record IsUnequalFirst (ns : List Namespace) (c : Columns) (s : ℕ) (a b : T
   pub inside : r < c.rows s
   pub differ : ¬ EqualAt ns c s a b i r
   pub first : (q : ℕ) → q < r → EqualAt ns c s a b i q
+
+-- the namespace that an identity speaks of
+abbrev pub space_of : Line → ℕ
+space_of (identity s a b) = s
+space_of _ = 0
+
+-- an identity holds at each row of instance i
+abbrev pub HoldsIn : List Namespace → Columns → ℕ → Line → Type 0
+HoldsIn ns c i (identity s a b) = IsEqual ns c s a b i
+HoldsIn ns c i _ = Unit {0}
+
+-- the answer names line k, which is the identity l, and the least row of instance i at which it is broken
+abbrev pub IsBreakIn : List Namespace → Columns → ℕ → Line → ℕ → Broken → Type 0
+IsBreakIn ns c i (identity s a b) k (At line j r) = (line ≡ k) × (j ≡ i) × IsUnequalFirst ns c s a b i r
+IsBreakIn ns c i _ k _ = ⊥

@@ -5,4 +5,7 @@ mod broken;
 mod rows;
 
 pub use broken::Broken;
-pub use rows::check_rows;
+pub use rows::{check_identity, check_rows, check_table};
+
+#[cfg(test)]
+mod tests;

@@ -13,8 +13,8 @@ loop-instance-preserved g c = (
   ],
 )
 
-pub returns : goal.returns
-returns g c =
+pub returns-clause-first : goal.returns-clause-first
+returns-clause-first g c =
     λ i r l l'. c.loop-instance.invariant.1 i
     (let l'' : i < c.instances-instance-end.result = subst (λ n. i < n) (sym c.instances-instance-end.ensures) l in
     let past = c.loop-instance-test.false in
