@@ -1,10 +1,15 @@
 //! The laws, each on a function that computes nothing.
-ghost use Rattle.std.specs.Prelude.{◌≡◌};
+ghost use Rattle.std.specs.Prelude.{◌≡◌, ◌++◌, ◌∷◌, List, length, take};
+ghost use Rattle.gold.specs.Shapes.{Fill};
+ghost use Rattle.gold.specs.declared.instances.Table.{Table};
 ghost use Rattle.gold.specs.declared.instances.Witness.{Witness as Tables};
 ghost use Rattle.rv_model.specs.Image.{Img, IsLoadable};
+ghost use Rattle.fixed_cols.specs.declared.sizes.Sizes.{Sizes};
 ghost use Rattle.machine_columns.specs.Accepted.{AreAccepted, AreWellFormed, public_of};
+ghost use Rattle.machine_columns.specs.Values.{sizes_of};
 ghost use Rattle.verdict.specs.declared.judgement.Judgement.{Judgement as JudgementOf};
 ghost use Rattle.verdict.specs.Judged.{IsJudged};
+ghost use Rattle.verdict.specs.Standing.{AreAll, ComesNext, places_of};
 ghost use Rattle.verdict.specs.Steps.{AreSteps, NothingWraps, RunsBy};
 
 use bus_check::one_verdict;
@@ -32,3 +37,12 @@ pub fn judgement_laws()
 {
     one_verdict();
 }
+
+/// Which table a run of the verdict wants next, and which tables are all.
+pub fn file_laws()
+    // Of tables that stand at the first of a file's places, each is the next one after those before it.
+    ensures next { (sizes : Sizes) (before : List Table) (table : Table) (rest : List Table)
+        → Fill (take (length (before ++ table ∷ rest)) (places_of sizes)) (before ++ table ∷ rest) → ComesNext sizes before table }
+    // The tables of well-formed ones are all tables of a file of their sizes.
+    ensures all { (tables : Tables) → AreWellFormed tables → AreAll (sizes_of tables) tables.tables }
+{}

@@ -10,5 +10,5 @@ mod told;
 
 pub use judgement::Judgement;
 pub use judging::verdict;
-pub use laws::{judgement_laws, soundness_laws};
+pub use laws::{file_laws, judgement_laws, soundness_laws};
 pub use run::VerdictRun;
