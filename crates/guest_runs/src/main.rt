@@ -4,7 +4,7 @@
 use host_io::OsHost;
 use std::alloc::{AllocError, Global};
 use std::process::ExitCode;
-use zk_top::top;
+use zk_top::{NoGate, top};
 use zk_words::Status;
 
 const GUESTS: [&str; 5] = ["products", "sha256", "sieve", "sorting", "word_count"];
@@ -26,7 +26,7 @@ fn main(rt: HostRuntime) -> ExitCode {
         let Ok(words) = words(alloc, guest) else {
             return ExitCode::from(Status::NoMemory.code());
         };
-        let code = top(alloc, &words, &mut host).code();
+        let code = top(&rt, alloc, &words, &mut host, &NoGate).code();
         if code != 0 {
             return ExitCode::from(code);
         }

@@ -11,8 +11,8 @@ use Rattle.pil_ast.specs.Shape.{air_shape}
 use Rattle.pil_text.specs.Refusal.{UnlessMemory}
 use Rattle.pil_text.specs.Text.{Reads, Fails, IsDecided}
 use Rattle.pil_text.specs.declared.error.PilErr.{PilErr}
-use Rattle.pil_text.specs.declared.error.PilErrKind.{PilErrKind}
-use Rattle.pil_text.specs.declared.error.PilErrKind.TheVariants as kinds
+use Rattle.pil_text.specs.declared.error.PilKind.{PilKind}
+use Rattle.pil_text.specs.declared.error.PilKind.TheVariants as kinds
 use Rattle.wit_columns.specs.Values.{values_of}
 use Rattle.zk_words.specs.declared.status.Which.TheVariants as files
 use Rattle.zk_words.specs.declared.status.Status.{Status}
@@ -31,7 +31,7 @@ pub only_fault : (text : List ℕ) (e : PilErr) → IsDecided text → Fails tex
 only_fault text e decided fails = (λ ns reads. decided.not_both ns e reads fails, λ other is. decided.one_refusal other e is fails)
 
 -- what a refusal says where memory didn't run out
-pub unless_memory : (k : PilErrKind) (P : Type 0) → k ≢ kinds.NoMemory → UnlessMemory k P → P
+pub unless_memory : (k : PilKind) (P : Type 0) → k ≢ kinds.NoMemory → UnlessMemory k P → P
 unless_memory kinds.NoMemory P other told = absurd (other refl)
 unless_memory kinds.BadByte P other told = told
 unless_memory kinds.NumberTooLarge P other told = told

@@ -15,7 +15,7 @@ use crate::tables::{TABLES_LIMIT, tables_of};
 use bus_check::{first_broken, one_verdict};
 use host_io::Host;
 use pil_ast::{Columns, Pil};
-use pil_text::{PilErrKind, one_answer};
+use pil_text::{PilKind, one_answer};
 use std::alloc::Global;
 use wit_columns::TableColumns;
 use zk_words::{Status, Which};
@@ -34,7 +34,7 @@ fn constraints_of(alloc: Global, text: &[u8]) -> Result<Pil, Status>
     match pil_text::read(alloc, text) {
         Ok(pil) => Ok(pil),
         Err(e) => match e.kind {
-            PilErrKind::NoMemory => Err(Status::NoMemory),
+            PilKind::NoMemory => Err(Status::NoMemory),
             _ => Err(Status::BadPil(e)),
         },
     }

@@ -14,14 +14,24 @@ use crate::judging::check_call;
 use crate::laws::headline;
 use crate::printing::print_call;
 use crate::running::run_call;
-use crate::witnessing::witness_one;
+use crate::witnessing::witness_call;
 use host_io::Host;
 use std::alloc::Global;
+use std::sync::Wait;
+use std::thread::Threads;
+use wit_pool::Gate;
 use zk_words::{Command, Status, read_words};
 
 /// The whole program: does what the words ask for (docs/COMMANDS.md), over the host, and answers how it
-/// ended. Nothing that the host is asked for, given or told goes beyond the words' outcome.
-pub fn top<H: Host>(alloc: Global, words: &[String], host: &mut H) -> Status
+/// ended. Nothing that the host is asked for, given or told goes beyond the words' outcome. What the gate does and in which
+/// order threads run changes no clause.
+pub fn top<R: Threads + Wait + Sync, H: Host, G: Gate + Sync>(
+    rt: &R,
+    alloc: Global,
+    words: &[String],
+    host: &mut H,
+    gate: &G,
+) -> Status
     ensures told { H.tells host.old → H.tells host.new }
     // What is answered, asked for, written and reported is what the words and the contents of the files come to.
     ensures ends { H.tells host.old → (o : Outcome) → IsOutcome (H.world host.old).contents (texts words.now) o → Ends o result (H.world host.old) (H.world host.new) }
@@ -40,14 +50,17 @@ pub fn top<H: Host>(alloc: Global, words: &[String], host: &mut H) -> Status
             [_, elf, input, _] => run_call(alloc, host, elf.as_str(), input.as_str(), steps),
             _ => unreachable!(),
         },
-        Some(Command::Witness { steps, .. }) => match words {
-            [_, elf, input, tables, _, _] => witness_one(
+        Some(Command::Witness { steps, workers }) => match words {
+            [_, elf, input, tables, _, _] => witness_call(
+                rt,
                 alloc,
                 host,
+                gate,
                 elf.as_str(),
                 input.as_str(),
                 tables.as_str(),
                 steps,
+                workers,
             ),
             _ => unreachable!(),
         },

@@ -17,6 +17,7 @@ mod tables;
 #[cfg(test)]
 mod tests;
 mod witnessing;
+mod workers;
 mod writing;
 
 pub use checking::pil_call;
@@ -27,4 +28,6 @@ pub use judging::check_call;
 pub use laws::{headline, one_outcome};
 pub use printing::print_call;
 pub use running::run_call;
-pub use witnessing::witness_one;
+pub use wit_pool::{Gate, NoGate};
+pub use witnessing::{witness_call, witness_one};
+pub use zk_words::{DemoKind, Status, Which};

@@ -1,7 +1,10 @@
-use crate::top;
+use crate::{NoGate, top};
 use host_io::{HostCall, MemHost};
 use std::alloc::{AllocError, Global};
+use std::sync::Wait;
 use std::test::Fail;
+use std::thread::Threads;
+use zk_words::Status;
 
 // An ELF file with one program header and no code: the code stands behind it, at byte 120.
 const HEADERS: [u8; 120] = [
@@ -40,12 +43,22 @@ fn host(alloc: Global, elf: Vec<u8>, failing: Vec<(HostCall, u64)>) -> Result<Me
     Ok(MemHost::new(alloc, files, 100, failing))
 }
 
-pub fn words(alloc: Global, line: &str) -> Result<Vec<String>, AllocError> {
+fn words(alloc: Global, line: &str) -> Result<Vec<String>, AllocError> {
     let mut words = Vec::new(alloc);
     for word in line.split(' ') {
         words.push(String::from_str(alloc, word)?)?;
     }
     Ok(words)
+}
+
+// The program with these words.
+fn status_of<R: Threads + Wait + Sync>(
+    rt: &R,
+    alloc: Global,
+    line: &str,
+    host: &mut MemHost,
+) -> Result<Status, AllocError> {
+    Ok(top(rt, alloc, &words(alloc, line)?, host, &NoGate))
 }
 
 // Each fault of a step, by the code that comes to it.
@@ -96,7 +109,7 @@ const SECOND_HEADER: [u32; 14] = [1, 5, 120, 0, 0x1_0078, 0, 0x1_0078, 0, 4, 0, 
 fn a_run_reports_its_steps_and_output(rt: HostRuntime) -> Result<(), Fail> {
     let alloc = rt.alloc();
     let mut host = host(alloc, file(alloc, &EXIT_SEVEN, (7, 0))?, Vec::new(alloc))?;
-    let status = top(alloc, &words(alloc, "run E I 3")?, &mut host);
+    let status = status_of(&rt, alloc, "run E I 3", &mut host)?;
     assert_eq!(rt; status.code(), 0);
     let mut report = Vec::from_slice(alloc, b"steps 3\nexit 7\noutput ")?;
     for _ in 0..512 {
@@ -110,10 +123,10 @@ fn a_run_reports_its_steps_and_output(rt: HostRuntime) -> Result<(), Fail> {
 #[test]
 fn faults_and_refusals_are_reported(rt: HostRuntime) -> Result<(), Fail> {
     let alloc = rt.alloc();
-    let line = words(alloc, "run E I 9")?;
+    let line = "run E I 9";
     for (code, report) in FAULTS {
         let mut host = host(alloc, file(alloc, code, (7, 0))?, Vec::new(alloc))?;
-        let status = top(alloc, &line, &mut host);
+        let status = status_of(&rt, alloc, line, &mut host)?;
         assert_eq!(rt; status.code(), 4, "at {report}");
         assert_eq!(rt; host.reported(), report.as_bytes(), "at {report}");
     }
@@ -123,7 +136,7 @@ fn faults_and_refusals_are_reported(rt: HostRuntime) -> Result<(), Fail> {
             file(alloc, &EXIT_SEVEN, (at, byte))?,
             Vec::new(alloc),
         )?;
-        let status = top(alloc, &line, &mut host);
+        let status = status_of(&rt, alloc, line, &mut host)?;
         assert_eq!(rt; status.code(), 3, "at {report}");
         assert_eq!(rt; host.reported(), report.as_bytes(), "at {report}");
     }
@@ -133,13 +146,14 @@ fn faults_and_refusals_are_reported(rt: HostRuntime) -> Result<(), Fail> {
 #[test]
 fn segments_that_overlap_or_are_too_large_are_reported(rt: HostRuntime) -> Result<(), Fail> {
     let alloc = rt.alloc();
-    let line = words(alloc, "run E I 9")?;
+    let line = "run E I 9";
     let mut overlapping = host(
         alloc,
         file(alloc, &SECOND_HEADER, (56, 2))?,
         Vec::new(alloc),
     )?;
-    assert_eq!(rt; top(alloc, &line, &mut overlapping).code(), 3);
+    let status = status_of(&rt, alloc, line, &mut overlapping)?;
+    assert_eq!(rt; status.code(), 3);
     assert_eq!(rt; overlapping.reported(), b"bad elf Overlap 0 1\n".as_slice());
     let mut bytes = file(alloc, &[0], (99, 1))?;
     if let Some(byte) = bytes.get_mut(107) {
@@ -147,7 +161,8 @@ fn segments_that_overlap_or_are_too_large_are_reported(rt: HostRuntime) -> Resul
     }
     bytes.resize(120 + 0x100_0004, 0)?;
     let mut large = host(alloc, bytes, Vec::new(alloc))?;
-    assert_eq!(rt; top(alloc, &line, &mut large).code(), 3);
+    let status = status_of(&rt, alloc, line, &mut large)?;
+    assert_eq!(rt; status.code(), 3);
     assert_eq!(rt;
         large.reported(),
         b"bad elf TooMuchData 16777220\n".as_slice()
@@ -167,13 +182,13 @@ fn other_endings_are_reported(rt: HostRuntime) -> Result<(), Fail> {
         ("run missing I 3", 9, ""),
     ] {
         let mut host = host(alloc, file(alloc, &EXIT_SEVEN, (7, 0))?, Vec::new(alloc))?;
-        let status = top(alloc, &words(alloc, line)?, &mut host);
+        let status = status_of(&rt, alloc, line, &mut host)?;
         assert_eq!(rt; status.code(), code, "at {line}");
         assert_eq!(rt; host.reported(), report.as_bytes(), "at {line}");
     }
     let short = HEADERS[..63].to_vec(alloc)?;
     let mut host = host(alloc, short, Vec::new(alloc))?;
-    let status = top(alloc, &words(alloc, "run E I 3")?, &mut host);
+    let status = status_of(&rt, alloc, "run E I 3", &mut host)?;
     assert_eq!(rt; status.code(), 3);
     assert_eq!(rt; host.reported(), b"bad elf Short 63\n".as_slice());
     Ok(())
@@ -191,7 +206,7 @@ fn a_failing_host_ends_the_command(rt: HostRuntime) -> Result<(), Fail> {
         let mut failing = Vec::new(alloc);
         failing.push((call, number))?;
         let mut host = host(alloc, file(alloc, &EXIT_SEVEN, (7, 0))?, failing)?;
-        let status = top(alloc, &words(alloc, "run E I 3")?, &mut host);
+        let status = status_of(&rt, alloc, "run E I 3", &mut host)?;
         assert_eq!(rt; status.code(), 9);
         assert_eq!(rt; host.reported().len(), reported);
     }
@@ -204,7 +219,7 @@ fn a_text_has_a_limit(rt: HostRuntime) -> Result<(), Fail> {
     let mut bytes = Vec::new(alloc);
     bytes.resize((1 << 20) + 1, b' ')?;
     let mut host = host(alloc, bytes, Vec::new(alloc))?;
-    let status = top(alloc, &words(alloc, "pil E I")?, &mut host);
+    let status = status_of(&rt, alloc, "pil E I", &mut host)?;
     assert_eq!(rt; status.code(), 8);
     assert_eq!(rt; host.reported(), b"too large pil\n".as_slice());
     Ok(())
@@ -217,7 +232,7 @@ fn a_failing_host_ends_the_check(rt: HostRuntime) -> Result<(), Fail> {
         let mut failing = Vec::new(alloc);
         failing.push((call, number))?;
         let mut host = host(alloc, file(alloc, &EXIT_SEVEN, (7, 0))?, failing)?;
-        let status = top(alloc, &words(alloc, "pil E I")?, &mut host);
+        let status = status_of(&rt, alloc, "pil E I", &mut host)?;
         assert_eq!(rt; status.code(), 9);
         assert_eq!(rt; host.reported().len(), 0);
     }
@@ -237,9 +252,9 @@ fn host_of_tables(alloc: Global, tables: Option<Vec<u8>>) -> Result<MemHost, All
 }
 
 // The bytes of the tables of `EXIT_SEVEN`.
-fn tables(alloc: Global) -> Result<Vec<u8>, AllocError> {
+fn tables<R: Threads + Wait + Sync>(rt: &R, alloc: Global) -> Result<Vec<u8>, AllocError> {
     let mut host = host_of_tables(alloc, None)?;
-    let _status = top(alloc, &words(alloc, "witness E I T 3 0")?, &mut host);
+    let _status = status_of(rt, alloc, "witness E I T 3 0", &mut host)?;
     match host.written("T") {
         Some(bytes) => bytes.to_vec(alloc),
         None => Ok(Vec::new(alloc)),
@@ -250,14 +265,14 @@ fn tables(alloc: Global) -> Result<Vec<u8>, AllocError> {
 fn tables_are_written_and_accepted(rt: HostRuntime) -> Result<(), Fail> {
     let alloc = rt.alloc();
     let mut host = host_of_tables(alloc, None)?;
-    let status = top(alloc, &words(alloc, "witness E I T 3 0")?, &mut host);
+    let status = status_of(&rt, alloc, "witness E I T 3 0", &mut host)?;
     assert_eq!(rt; status.code(), 0);
     let mut report = Vec::from_slice(alloc, b"steps 3\nexit 7\noutput ")?;
     report.resize(report.len() + 512, b'0')?;
     report.push(b'\n')?;
     assert_eq!(rt; host.reported(), report.as_slice());
     assert_eq!(rt; host.written("T").map(|bytes| bytes.len()), Some(4_064_364));
-    let status = top(alloc, &words(alloc, "check E I T")?, &mut host);
+    let status = status_of(&rt, alloc, "check E I T", &mut host)?;
     assert_eq!(rt; status.code(), 0);
     report.extend_from_slice(b"accepted\nexit 7\noutput ")?;
     report.resize(report.len() + 512, b'0')?;
@@ -272,12 +287,12 @@ const LO_AT_40: usize = 44 + (16 + 37 * 4096 * 8) + 16 + (4 * 8192 + 40) * 8;
 #[test]
 fn a_forged_value_breaks_a_line(rt: HostRuntime) -> Result<(), Fail> {
     let alloc = rt.alloc();
-    let mut bytes = tables(alloc)?;
+    let mut bytes = tables(&rt, alloc)?;
     if let Some(byte) = bytes.get_mut(LO_AT_40) {
         *byte = 8;
     }
     let mut host = host_of_tables(alloc, Some(bytes))?;
-    let status = top(alloc, &words(alloc, "check E I T")?, &mut host);
+    let status = status_of(&rt, alloc, "check E I T", &mut host)?;
     assert_eq!(rt; status.code(), 1);
     assert_eq!(rt;
         host.reported(),
@@ -289,10 +304,10 @@ fn a_forged_value_breaks_a_line(rt: HostRuntime) -> Result<(), Fail> {
 #[test]
 fn tables_that_are_cut_are_refused(rt: HostRuntime) -> Result<(), Fail> {
     let alloc = rt.alloc();
-    let mut bytes = tables(alloc)?;
+    let mut bytes = tables(&rt, alloc)?;
     let _last = bytes.pop();
     let mut host = host_of_tables(alloc, Some(bytes))?;
-    let status = top(alloc, &words(alloc, "check E I T")?, &mut host);
+    let status = status_of(&rt, alloc, "check E I T", &mut host)?;
     assert_eq!(rt; status.code(), 6);
     assert_eq!(rt; host.reported(), b"bad tables Short 4064363\n".as_slice());
     Ok(())
@@ -306,7 +321,7 @@ fn the_machine_is_printed_in_both_profiles(rt: HostRuntime) -> Result<(), Fail> 
         ("machine wide", "namespace Main(16384);\n"),
     ] {
         let mut host = host_of_tables(alloc, None)?;
-        let status = top(alloc, &words(alloc, line)?, &mut host);
+        let status = status_of(&rt, alloc, line, &mut host)?;
         assert_eq!(rt; status.code(), 0, "at {line}");
         let found = host
             .reported()
@@ -333,7 +348,7 @@ fn a_failing_host_leaves_a_front_of_the_tables(rt: HostRuntime) -> Result<(), Fa
         files.push((String::from_str(alloc, "E")?, elf))?;
         files.push((String::from_str(alloc, "I")?, Vec::new(alloc)))?;
         let mut host = MemHost::new(alloc, files, 65_536, failing);
-        let status = top(alloc, &words(alloc, "witness E I T 3 0")?, &mut host);
+        let status = status_of(&rt, alloc, "witness E I T 3 0", &mut host)?;
         assert_eq!(rt; status.code(), 9);
         assert_eq!(rt; host.written("T").map(|bytes| bytes.len()), written);
         assert_eq!(rt; host.reported().len(), 0);

@@ -5,8 +5,8 @@ use Rattle.elf_load.specs.declared.error.ElfErr.TheVariants as elf
 use Rattle.rv_model.specs.declared.answer.RunFault.{RunFault}
 use Rattle.rv_model.specs.declared.answer.RunFault.TheVariants as faults
 use Rattle.pil_text.specs.declared.error.PilErr.{PilErr}
-use Rattle.pil_text.specs.declared.error.PilErrKind.{PilErrKind}
-use Rattle.pil_text.specs.declared.error.PilErrKind.TheVariants as pil
+use Rattle.pil_text.specs.declared.error.PilKind.{PilKind}
+use Rattle.pil_text.specs.declared.error.PilKind.TheVariants as pil
 use Rattle.tab_file.specs.declared.fault.TabErr.{TabErr}
 use Rattle.tab_file.specs.declared.fault.TabKind.{TabKind}
 use Rattle.tab_file.specs.declared.fault.TabKind.TheVariants as tab
@@ -81,7 +81,7 @@ tab_text tab.NotCanonical = codes "NotCanonical"
 tab_text tab.Trailing = codes "Trailing"
 tab_text tab.NoMemory = codes "NoMemory"
 
-abbrev pub pil_text : PilErrKind → List ℕ
+abbrev pub pil_text : PilKind → List ℕ
 pil_text pil.BadByte = codes "BadByte"
 pil_text pil.NumberTooLarge = codes "NumberTooLarge"
 pil_text pil.Unexpected = codes "Unexpected"

@@ -9,7 +9,7 @@ use gold::Profile;
 use itoa::Buffer;
 
 /// At most so many workers.
-pub const MOST_WORKERS: u32 = 0;
+pub const MOST_WORKERS: u32 = 64;
 
 /// A demo program draws at most so many instructions.
 const MOST_DRAWN: u32 = 100_000;
@@ -246,6 +246,13 @@ mod tests {
                     workers: 0,
                 },
             ),
+            (
+                "witness|a|b|c|1|64",
+                Command::Witness {
+                    steps: 1,
+                    workers: 64,
+                },
+            ),
         ] {
             let words = words(alloc, line)?;
             assert_eq!(rt; read_words(&words), Some(command), "at {line}");
@@ -274,7 +281,9 @@ mod tests {
             "machine|x",
             "machine|wide|x",
             "witness|a|b|c|20",
-            "witness|a|b|c|20|1",
+            "witness|a|b|c|20|65",
+            "witness|a|b|c|20|01",
+            "witness|a|b|c|20|4294967296",
             "witness|a|b|c|0|0",
             "witness|a|b|c|20|0|x",
             "demo|1|mul|0",

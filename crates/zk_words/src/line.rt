@@ -5,7 +5,7 @@ ghost use Rattle.zk_words.specs.Lines.{line_of, elf_text, fault_text, tab_text, 
 use crate::{Status, Which};
 use elf_load::ElfErr;
 use itoa::Buffer;
-use pil_text::{PilErr, PilErrKind};
+use pil_text::{PilErr, PilKind};
 use row_check::Broken;
 use rv_model::RunFault;
 use std::alloc::{AllocError, Global};
@@ -103,18 +103,18 @@ fn pil_line(alloc: Global, e: PilErr) -> Result<Vec<u8>, AllocError>
     ensures { IfOk result (λ text. text.items ≡ codes "bad pil " ++ pil_text e.kind ++ numbers (e.at ∷ []) ++ codes "\n") }
 {
     let name = match e.kind {
-        PilErrKind::BadByte => "BadByte",
-        PilErrKind::NumberTooLarge => "NumberTooLarge",
-        PilErrKind::Unexpected => "Unexpected",
-        PilErrKind::TooDeep => "TooDeep",
-        PilErrKind::Repeated => "Repeated",
-        PilErrKind::UnknownName => "UnknownName",
-        PilErrKind::BadRow => "BadRow",
-        PilErrKind::Mixed => "Mixed",
-        PilErrKind::WrongWidth => "WrongWidth",
-        PilErrKind::CyclicPol => "CyclicPol",
-        PilErrKind::DoubleMark => "DoubleMark",
-        PilErrKind::NoMemory => "NoMemory",
+        PilKind::BadByte => "BadByte",
+        PilKind::NumberTooLarge => "NumberTooLarge",
+        PilKind::Unexpected => "Unexpected",
+        PilKind::TooDeep => "TooDeep",
+        PilKind::Repeated => "Repeated",
+        PilKind::UnknownName => "UnknownName",
+        PilKind::BadRow => "BadRow",
+        PilKind::Mixed => "Mixed",
+        PilKind::WrongWidth => "WrongWidth",
+        PilKind::CyclicPol => "CyclicPol",
+        PilKind::DoubleMark => "DoubleMark",
+        PilKind::NoMemory => "NoMemory",
     };
     line(alloc, "bad pil ", name, &[e.at])
 }

@@ -1,11 +1,15 @@
-//! The program `zkw`: it hands its words and the real files to `top`, and ends with the status's code.
+//! The program `zkw`: it hands its words and the real files to `top`, says on standard error what a refusal is,
+//! and ends with the status's code.
 #![tactic(auto)]
 
 use host_io::OsHost;
+use progress::ProgressHost;
 use std::env;
-use std::io::{self, ErrorKind};
+use std::io::{self, ErrorKind, IsTerminal};
 use std::process::ExitCode;
-use zk_top::top;
+use std::sync::Wait;
+use std::thread::Threads;
+use zk_top::{NoGate, Status, top};
 
 /// Memory ran out while the words were taken.
 const NO_MEMORY: u8 = 10;
@@ -22,11 +26,31 @@ fn words(rt: &HostRuntime) -> io::Result<Vec<String>> {
     Ok(words)
 }
 
+// Does what the words ask for. Where standard error is a terminal it shows there how much was read and written.
+fn status_of(rt: &HostRuntime, threads: &(impl Threads + Wait + Sync), words: &[String]) -> Status {
+    let mut host = OsHost::new(rt.alloc(), rt);
+    if !rt.stderr().is_terminal() {
+        return top(threads, rt.alloc(), words, &mut host, &NoGate);
+    }
+    let mut shown = ProgressHost::new(host, rt.stderr());
+    let status = top(threads, rt.alloc(), words, &mut shown, &NoGate);
+    shown.end();
+    status
+}
+
+// Says what a refusal is. Where standard error can't be written, the status's code is left to say it.
+fn say(rt: &HostRuntime, status: &Status) {
+    if status.code() != 0 {
+        let _said = eprintln!(rt; "zkw: {status}");
+    }
+}
+
 fn main(rt: HostRuntime) -> ExitCode {
     match words(&rt) {
         Ok(words) => {
-            let mut host = OsHost::new(rt.alloc(), &rt);
-            ExitCode::from(top(rt.alloc(), &words, &mut host).code())
+            let status = status_of(&rt, &rt, &words);
+            say(&rt, &status);
+            ExitCode::from(status.code())
         }
         Err(e) if e.kind() == ErrorKind::OutOfMemory => ExitCode::from(NO_MEMORY),
         Err(_) => ExitCode::from(NO_WORDS),

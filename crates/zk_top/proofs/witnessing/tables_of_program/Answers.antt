@@ -16,7 +16,7 @@ returns-in-Ok-clause-leads g c = λ told tables o is.
     let image = c.in-Ok.image in
     let has = c.in-Ok.ensures.had told in
     let on = program_on elf input (λ i p. p ≡ of_making names tables i c.args.steps (end_within i c.args.steps)) o image old new has is in
-    making_leads names tables image c.args.steps o c.made_of.result old new (program_asks elf input image old new has) (program_read elf input image old new has) on c.made_of.ensures.made
+    making_leads names tables image c.args.steps o c.tables_alone.result old new (program_asks elf input image old new has) (program_read elf input image old new has) on c.tables_alone.ensures.made
 
 pub returns-in-Err-clause-leads : goal.returns-in-Err-clause-leads
 unfolding IsWitnessOutcome

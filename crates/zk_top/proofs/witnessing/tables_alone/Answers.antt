@@ -7,7 +7,7 @@ use Rattle.rv_model.specs.Image.{Img, IsLoadable}
 use Rattle.rv_model.specs.Run.{Halted, end_within}
 use Rattle.run_tables.specs.Sequential.{sequential_witness}
 use Rattle.zk_top.proofs.Making.{halted_runs, made_so}
-use Rattle.zk_top.proofs.witnessing.made_of.Goals as goal
+use Rattle.zk_top.proofs.witnessing.tables_alone.Goals as goal
 
 pub returns-in-Ok-sequential-clause-made : goal.returns-in-Ok-sequential-clause-made
 returns-in-Ok-sequential-clause-made c =
