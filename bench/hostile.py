@@ -1,6 +1,6 @@
 #!/usr/bin/env python3
-"""Hostile constraint texts and table files: what `zkw pil` and `zkw check` say of each, in what time and with how
-much memory, beside the file's size. Of a run's table file every front below 200 bytes and the last 200 are tried.
+"""Hostile constraint texts, table files and ELF files: what `zkw pil`, `zkw check` and `zkw run` say of each, in what
+time and with how much memory, beside the file's size. Of a run's table file every front below 200 bytes and the last 200 are tried.
 
 Usage: hostile.py ZKW, the built program. Ends with 1 where an answer is another than the one named here.
 """
@@ -126,6 +126,47 @@ MACHINE_FILES = [
 ]
 
 
+MOST_HEADERS = 65535
+BASE = 0x10000
+
+
+def many_segments(ranges):
+    """An ELF file with a program header for each address and length, without bytes of their own."""
+    ident = b"\x7fELF\x02\x01\x01".ljust(16, b"\0")
+    head = ident + struct.pack("<HHIQQQIHHHHHH", 2, 243, 1, BASE, 64, 0, 0, 64, 56, len(ranges), 0, 0, 0)
+    return head + b"".join(struct.pack("<IIQQQQQQ", 1, 5, 0, start, start, 0, size, 1) for start, size in ranges)
+
+
+def apart(count):
+    return [(BASE + 16 * i, 16) for i in range(count)]
+
+
+# Each ELF file of `run`: the addresses and lengths of its segments, and what is said.
+PROGRAMS = [
+    ("the last two segments overlap", [*apart(MOST_HEADERS - 1), (BASE + 16 * (MOST_HEADERS - 2) + 15, 16)], f"bad elf Overlap {MOST_HEADERS - 2} {MOST_HEADERS - 1}\n"),
+    ("the first and the last overlap", [*apart(MOST_HEADERS - 1), (BASE, 1)], f"bad elf Overlap 0 {MOST_HEADERS - 1}\n"),
+    ("falling, the last two overlap", [*reversed(apart(MOST_HEADERS)[1:]), (BASE, 17)], f"bad elf Overlap {MOST_HEADERS - 2} {MOST_HEADERS - 1}\n"),
+    ("the last covers all others", [*apart(MOST_HEADERS - 1), (BASE, 1 << 24)], f"bad elf Overlap 0 {MOST_HEADERS - 1}\n"),
+    ("all at one address", [(BASE, 16)] * MOST_HEADERS, "bad elf Overlap 0 1\n"),
+]
+
+
+def check_programs(program, folder):
+    """The ELF files of `run`. Returns the number of wrong answers."""
+    elf, data = os.path.join(folder, "a.elf"), os.path.join(folder, "a.input")
+    open(data, "wb").close()
+    wrong = 0
+    for name, ranges, wants in PROGRAMS:
+        file = many_segments(ranges)
+        with open(elf, "wb") as out:
+            out.write(file)
+        said, seconds, peak, status = run(program, "run", elf, data, "10")
+        ok = (said, status) == (wants, 3)
+        wrong += not ok
+        print(f"{name:34} {len(file):8} bytes {seconds:6.2f} s {peak / 1e6:7.1f} MB  {said.strip()}{'' if ok else '  WRONG, wants ' + wants}")
+    return wrong
+
+
 def check_files(program, folder):
     """The files of `check`, and cut ones. Returns the number of wrong answers."""
     elf, data, tables = (os.path.join(folder, "a" + end) for end in (".elf", ".input", ".tables"))
@@ -206,6 +247,7 @@ def main():
             if not said.startswith(("bad pil ", "bad tables ")):
                 wrong += 1
                 print(f"text cut at {length}: {said}")
+        wrong += check_programs(program, folder)
         wrong += check_files(program, folder)
     print(f"{wrong} wrong")
     sys.exit(1 if wrong else 0)

@@ -219,4 +219,5 @@ def main():
         bench.ratio("check", "plain check", "2, below 400 MB")
 
 
-main()
+if __name__ == "__main__":
+    main()
