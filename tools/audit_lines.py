@@ -1,137 +1,46 @@
 #!/usr/bin/env python3
-"""Counts the lines that docs/AUDIT.md asks a reader to read, and lists the declarations in code that the
-definitions among them use.
+"""Counts the lines that docs/AUDIT.md asks a reader to read, and lists the declarations in code among them.
 
 Usage: audit_lines.py [--write]; without --write it says where the page differs, and then ends with 1.
 
 A table that begins with `Read` names files or folders of crates/ in its first column; a name without a folder is
 in the folder of the one before it, a folder stands for its definitions, and what comes after ` or ` isn't counted.
-Lines that are blank or import aren't counted. The number stands in the column `Lines`, the sum in the last
-row. Behind such a table may be one that begins with `In code`: the declarations that the definitions above name,
-with those that these name, each once.
+The tables of LAYERS count the lines of those declarations alone that the headline names, or what it names names,
+and so on; a file that has one and stands in no table is an error. Other tables count their files whole. Lines that
+are blank, comments or imports aren't counted. The number stands in the column `Lines`, the sum in the last row.
+Behind a table of LAYERS stands one that begins with `In code`: the declarations in code, each once. The first table,
+`To believe`, has the sums.
 """
 import os
 import re
 import sys
 
-TOP = os.path.join(os.path.dirname(os.path.abspath(__file__)), "..")
-CRATES = os.path.join(TOP, "crates")
-PAGE = os.path.join(TOP, "docs", "AUDIT.md")
-DECLARED = re.compile(r"Rattle\.(\w+)\.specs\.declared((?:\.[\w-]+)+?)\.\{([^}]*)\}")
-DECLARATION = r"^(?:pub(?:\(crate\))? )?(?:struct|enum|trait|type|const) {name}\b"
+from audit_names import CRATES, Names, files_in, is_code, lines_of
 
+PAGE = os.path.join(CRATES, "..", "docs", "AUDIT.md")
 
-def lines_of(path):
-    with open(os.path.join(CRATES, path)) as file:
-        return file.read().splitlines()
+ROOTS = [("zk_top.specs.Headline", "Headline"), ("zk_top.specs.Ends", "Ends")]
+# What other commands come to, and the text of the constraints, which is read as text.
+CLOSED = {
+    "zk_top.IsPilOutcome",
+    "zk_top.IsDemoOutcome",
+    "zk_top.IsMachineOutcome",
+    "pil_text.PilErr",
+    "pil_text.PilKind",
+    "demo_program.DemoKind",
+    "machine_text.machine",
+}
+TEXT = "machine_text/src/source.rt"
+TRAIT = "host_io/src/host.rt"
+TABLES = {"run_tables.sequential_witness"}
+ACCEPTANCE = {"machine_columns.AreAccepted", "machine_columns.values_of", "machine_columns.public_of", "row_check.IsFirstBroken"}
+# The tables' heads, and what is still closed there: each table opens what the one before it took as a name.
+LAYERS = {
+    "Read": ACCEPTANCE | TABLES,
+    "Read, for which tables are accepted": TABLES,
+    "Read, for which bytes are written": set(),
+}
 
-
-def counted(lines):
-    """The number of lines that are neither blank nor imports. An import goes on while its braces are open."""
-    number = braces = 0
-    for line in lines:
-        if braces or re.match(r"(?:pub )?(?:ghost )?use ", line):
-            braces += line.count("{") - line.count("}")
-        else:
-            number += bool(line.strip())
-    return number
-
-
-def files_of(cell):
-    """The files that a table's first cell names."""
-    found, folder = [], ""
-    for name in re.findall(r"`([^`]+)`", cell.split(" or ")[0]):
-        if "/" in name:
-            folder = os.path.dirname(name)
-        path = name if "/" in name else f"{folder}/{name}"
-        if path.endswith("/"):
-            inside = sorted(os.listdir(os.path.join(CRATES, path)))
-            found += [path + it for it in inside if it.endswith(".antt") and it != "Lib.antt"]
-        elif os.path.exists(os.path.join(CRATES, path)):
-            found.append(path)
-        elif "of the kit" not in cell:
-            sys.exit(f"{PAGE} names {path}, which isn't there")
-    return found
-
-
-# ---------------------------------------------------------------- declarations
-
-def source_files(crate):
-    folder = os.path.join(CRATES, crate, "src")
-    for place, _, names in sorted(os.walk(folder)):
-        for name in sorted(names):
-            if name.endswith(".rt"):
-                yield os.path.relpath(os.path.join(place, name), CRATES)
-
-
-def declaration_in(path, name):
-    """The lines of a declaration in a file with its comments and attributes, or None."""
-    lines = lines_of(path)
-    for at, line in enumerate(lines):
-        if re.match(DECLARATION.format(name=re.escape(name)), line):
-            start, end = at, at
-            while start > 0 and re.match(r"///|#\[", lines[start - 1]):
-                start -= 1
-            while not re.search(r"[;}]\s*$", lines[end]) or lines[end].startswith(" "):
-                end += 1
-            return lines[start : end + 1]
-    return None
-
-
-def declaration(crate, name):
-    """The file of a crate that declares the name, and the declaration's lines."""
-    for path in source_files(crate):
-        lines = declaration_in(path, name)
-        if lines:
-            return path, lines
-    return None
-
-
-def named_by_definitions(paths):
-    """The declarations of code that definitions import: crate and name."""
-    for path in paths:
-        if not path.endswith(".antt"):
-            continue
-        for crate, place, names in DECLARED.findall("\n".join(lines_of(path))):
-            parts = place.strip(".").split(".")
-            if not os.path.isdir(os.path.join(CRATES, crate)):
-                continue
-            if "TheConstants" in parts:
-                yield from ((crate, it.split(" as ")[0].strip()) for it in names.split(","))
-            else:
-                parts = [it for it in parts if it != "TheVariants"]
-                yield crate, parts[-1] if parts[-1][:1].isupper() else names.split(" as ")[0].strip()
-
-
-def named_by_declaration(path, lines):
-    """The declarations that a declaration names: crate and name."""
-    own = path.split("/")[0]
-    imports = {}
-    for crate, names in re.findall(r"^use (\w+)::\{?([^;{}]*)\}?;", "\n".join(lines_of(path)), flags=re.M):
-        imports.update({name.split("::")[-1].strip(): crate for name in names.split(",")})
-    code = [line for line in lines if not line.strip().startswith(("///", "#["))]
-    for name in sorted(set(re.findall(r"\b[A-Z]\w+", "\n".join(code)))):
-        crate = imports.get(name, own)
-        crate = own if crate == "crate" else crate
-        if os.path.isdir(os.path.join(CRATES, crate)):
-            yield crate, name
-
-
-def declarations(paths, whole):
-    """Files of code with the declarations in them that the definitions use; `whole` are files listed whole."""
-    found, todo, seen = {}, list(named_by_definitions(paths)), set()
-    while todo:
-        crate, name = todo.pop()
-        place = declaration(crate, name) if (crate, name) not in seen else None
-        seen.add((crate, name))
-        if place is None or place[0] in whole:
-            continue
-        found.setdefault(place[0], {})[name] = place[1]
-        todo += named_by_declaration(*place)
-    return found
-
-
-# ---------------------------------------------------------------- the page
 
 def cells_of(line):
     return [it.strip() for it in line.strip().strip("|").split("|")]
@@ -141,8 +50,30 @@ def row_of(cells):
     return "| " + " | ".join(cells) + " |"
 
 
-def thousands(n):
-    return f"{n:,}"
+def counted(path):
+    """The lines of a file that are code and no imports. An import goes on while its braces are open."""
+    number = braces = 0
+    for line in filter(is_code, lines_of(path)):
+        if braces or re.match(r"(?:pub )?(?:ghost )?use ", line):
+            braces += line.count("{") - line.count("}")
+        else:
+            number += 1
+    return number
+
+
+def files_of(cell):
+    """The files that a table's first cell names."""
+    found, folder = [], ""
+    for name in re.findall(r"`([^`]+)`", cell.split(" or ")[0]):
+        folder = os.path.dirname(name) if "/" in name else folder
+        path = name if "/" in name else f"{folder}/{name}"
+        if path.endswith("/"):
+            found += [it for it in files_in(path, ".antt") if not it.endswith("/Lib.antt")]
+        elif os.path.exists(os.path.join(CRATES, path)):
+            found.append(path)
+        elif "of the kit" not in cell:
+            sys.exit(f"{PAGE} names {path}, which isn't there")
+    return found
 
 
 class Page:
@@ -150,7 +81,8 @@ class Page:
 
     def __init__(self, lines):
         self.lines, self.at, self.made = lines, 0, []
-        self.listed, self.told, self.last = [], {}, []
+        self.names = Names()
+        self.told, self.left, self.sum, self.sums = set(), {}, 0, []
 
     def table(self):
         start = self.at
@@ -169,40 +101,66 @@ class Page:
             else:
                 self.made.append(line)
                 self.at += 1
+        self.fill_first_table()
         return self.made
+
+    def fill_first_table(self):
+        """The sums so far in the rows of the page's first table, one for each layer."""
+        start = next(at for at, line in enumerate(self.made) if line.startswith("| To believe")) + 2
+        for at, total in enumerate(self.sums, start):
+            self.made[at] = row_of(cells_of(self.made[at])[:-1] + [f"{total:,}"])
+
+    def layer(self, closed):
+        """The lines of each declaration that this layer adds, by file and name."""
+        roots = [self.names.place(*root) for root in ROOTS] + [self.names.in_code("host_io", "Host")]
+        found = self.names.reached(roots, closed | CLOSED)
+        return {place: len(lines) for place, lines in found.items() if place not in self.told}
 
     def read_table(self, rows):
         head = cells_of(rows[0])
         if "Lines" not in head:
             return rows
-        column, total = head.index("Lines"), 0
-        made, self.last = rows[:2], []
+        column, total, made = head.index("Lines"), 0, rows[:2]
+        layered = head[0] in LAYERS
+        self.left = self.layer(LAYERS[head[0]]) if layered else {}
+        self.told |= set(self.left)
         for row in rows[2:]:
             cells = cells_of(row)
-            if cells[0] == "All":
+            if cells[0].startswith("All"):
                 continue
             paths = files_of(cells[0])
-            self.last += paths
-            number = sum(counted(lines_of(path)) for path in paths)
+            number = sum(self.take(path) if layered else counted(path) for path in paths)
             total += number
-            cells[column] = thousands(number)
+            cells[column] = f"{number:,}"
             made.append(row_of(cells))
-        self.listed += self.last
-        sums = ["All"] + [""] * (len(head) - 1)
-        sums[column] = thousands(total)
-        return made + [row_of(sums)]
+        missing = {path for path, _ in self.left if path.endswith(".antt") or path == TRAIT}
+        if missing:
+            sys.exit(f"{head[0]}: no row for {', '.join(sorted(missing))}")
+        self.sum += total if layered else 0
+        return made + [self.last_row(total, column, len(head))]
+
+    def take(self, path):
+        """The lines of a file's declarations in this layer; the machine's text is read whole."""
+        mine = [place for place in self.left if place[0] == path]
+        return counted(path) if path == TEXT else sum(self.left.pop(place) for place in mine)
+
+    def last_row(self, total, column, width):
+        cells = ["All"] + [""] * (width - 1)
+        cells[column] = f"{total:,}"
+        return row_of(cells)
 
     def code_table(self):
-        made, total = ["| In code | Declarations | Lines |", "|---|---|---|"], 0
-        for path, names in sorted(declarations(self.last, set(self.listed)).items()):
-            names = {name: lines for name, lines in names.items() if (path, name) not in self.told}
-            if not names:
-                continue
-            self.told.update({(path, name): True for name in names})
-            number = sum(counted(lines) for lines in names.values())
+        made, total, files = ["| In code | Declarations | Lines |", "|---|---|---|"], 0, {}
+        for (path, name), number in self.left.items():
+            files.setdefault(path, {})[name] = number
+        for path, names in sorted(files.items()):
+            number = sum(names.values())
             total += number
-            made.append(row_of([f"`{path}`", ", ".join(f"`{name}`" for name in sorted(names)), thousands(number)]))
-        return made + [row_of(["All", "", thousands(total)])]
+            made.append(row_of([f"`{path}`", ", ".join(f"`{name}`" for name in sorted(names)), f"{number:,}"]))
+        self.sum += total
+        self.sums.append(self.sum)
+        made.append(row_of(["All, with the tables above", "", f"{self.sum:,}"]))
+        return made
 
 
 def main():
