@@ -1,0 +1,4 @@
+pub mod Weights
+pub mod Passes
+pub mod Events
+pub mod Led
