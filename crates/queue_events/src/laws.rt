@@ -7,8 +7,8 @@ ghost use Rattle.job_queue.specs.declared.rule.View.{View};
 ghost use Rattle.job_queue.specs.declared.ticket.Ticket.{Ticket};
 ghost use Rattle.queue_events.specs.Laws.{PushLaw, FullLaw, PopLaw, EmptyLaw, SplitLaw, JoinLaw, KeepLaw, NewLaw, BeginLaw, BalanceLaw, IsLed};
 
-/// Each atomic step of the queue leads from a moment that stands for a pipe to one that stands for what an event makes of the
-/// pipe: the calls of `JobQueue`, and the making of a queue.
+/// Where a moment stands for a value of the core, each atomic step of the queue leads to a moment that stands for what an event
+/// makes of the value, or the event is refused and nothing changes: the steps of `JobQueue`'s calls, and of making a queue.
 pub fn each_step_is_an_event()
     ensures push { PushLaw }
     ensures full { FullLaw }
@@ -22,8 +22,8 @@ pub fn each_step_is_an_event()
     ensures balance { BalanceLaw }
 {}
 
-/// Events lead from a new core to whatever moment steps of the queue lead to. It is said as `crossbeam_queue` asks it of a rule:
-/// it holds of a new queue, and each step keeps it.
+/// Events lead from a new core to whatever moment such steps lead to. It is said as `crossbeam_queue` asks it of a rule: it holds
+/// of a new queue, and each step keeps it.
 pub fn each_moment_is_led_to()
     ensures new { (capacity : ℕ) → IsLed capacity [] (blank ∷ []) }
     ensures begin { (capacity port shares : ℕ) (image : Img) → 0 < shares → Forks (IsLed capacity) port blank (whole image shares) spent }
