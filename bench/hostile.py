@@ -121,7 +121,8 @@ MACHINE_FILES = [
     ("all promised, one there", ONE_MAIN, len(ONE_MAIN) + 8 * 37 * 4096, GB, f"bad tables Short {len(ONE_MAIN) + 8 * 37 * 4096}\n", 6),
     ("all promised, 500 MB of zeros", MACHINE, GB // 2, GB, "bad tables BadShape 52\n", 6),
     ("500 MB of zeros", b"", GB // 2, GB, "bad tables BadMagic 0\n", 6),
-    ("10 GB of zeros, 1 GB of memory", b"", 10 * GB, GB, "", 10),
+    ("10 GB of zeros", b"", 10 * GB, GB // 4, "bad tables BadMagic 0\n", 6),
+    ("all promised, 10 GB of zeros", MACHINE, 10 * GB, GB, "bad tables BadShape 52\n", 6),
     ("an empty file", b"", 0, GB, "bad tables Short 0\n", 6),
 ]
 

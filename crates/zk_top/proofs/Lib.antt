@@ -10,3 +10,4 @@ pub mod Pieces
 pub mod Checks
 pub mod Sentences
 pub mod Demos
+mod ReadOut

@@ -91,6 +91,12 @@ AcceptedRuns =
     → AreBytes contents → AreProgram contents elf input image → AreTables contents tables file → IsOutcome contents (check_words elf input tables) o
     → o.status ≡ Some Done → CarriesRun image file o
 
+-- The sentences on `check` alone.
+pub record CheckHeadline : Type 0 where
+  pub check : CheckJudges
+  pub among : RunIsAccepted
+  pub carried : AcceptedRuns
+
 -- The three sentences. What they suppose is that the loader accepts the file and that the files keep their limits; that a host
 -- doesn't fail and that memory suffices stands in the clause of `top` that ties what it does to the outcome.
 pub record Headline : Type 0 where

@@ -34,6 +34,12 @@ pub record IsRead (name : Asked) (behind : Option (List ℕ)) (limit : ℕ) (byt
   pub asks : Asks (name ∷ []) old new
   pub read : AreReadOut old new
 
+-- the file of this name was read whole, and its bytes were given after those that were given before
+pub record IsReadInto {A : Type 0} (before after : A → List ℕ → Type 0) (name : Asked) (behind : Option (List ℕ)) (limit : ℕ) (old new : World) : Type 0 where
+  pub bytes : List ℕ
+  pub is_read : IsRead name behind limit bytes old new
+  pub given : (start : A) (front : List ℕ) → before start front → after start (front ++ bytes)
+
 -- it was asked for, and has more bytes
 pub record IsTooLarge (name : Asked) (behind : Option (List ℕ)) (limit : ℕ) (old new : World) : Type 0 where
   pub bytes : List ℕ

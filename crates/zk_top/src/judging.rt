@@ -1,54 +1,50 @@
 //! The command `check`.
-ghost use Rattle.std.specs.Prelude.{◌≡◌, ◌≢◌, ◌≤◌, IsErrOf};
-ghost use Rattle.machine_columns.specs.Accepted.{AreWellFormed};
+ghost use Rattle.std.specs.Prelude.{◌≡◌, ◌≢◌, ◌≤◌, List, ℕ, IsErrOf};
+ghost use Rattle.rv_model.specs.Image.{Img};
 ghost use Rattle.host_io.specs.Calls.{HasRisen};
-ghost use Rattle.zk_top.specs.Outcome.{Outcome, OfVerdict, OfMachineTables, IsCheckOutcome};
+ghost use Rattle.file_verdict.specs.Standing.{IsReady, StandsForFile};
+ghost use Rattle.zk_top.specs.Outcome.{Outcome, OfMachineTables, IsCheckOutcome};
 ghost use Rattle.zk_top.specs.Ends.{Ends};
+ghost use Rattle.zk_top.specs.Headline.{CheckHeadline};
 ghost use Rattle.zk_top.specs.Parts.{Comes, Leads};
 
 use crate::ending::{finish, refuse};
-use crate::files::{file_of, stopped};
+use crate::files::{file_into, stopped};
+use crate::laws::check_headline;
 use crate::loading::program_of;
 use crate::report::check_text;
-use crate::tables::{TABLES_LIMIT, tables_of};
+use crate::tables::TABLES_LIMIT;
 use bus_check::one_verdict;
-use gold::{Form, Witness};
+use file_verdict::FileVerdict;
 use host_io::Host;
-use rv_model::Image;
 use std::alloc::Global;
+use tab_file::TabKind;
+use tab_file::laws::{one_text, reads_or_fails};
 use verdict::Judgement;
-use zk_layout::machine_shape;
 use zk_words::{Status, Which};
 
-// The report of tables that are accepted, or how the command ends without: by the first broken line.
+// The report of a table file, all of which has come, or how the command ends without: by the first item that fails, or the
+// first broken line.
 #[tactic(auto, unfolding(machine_columns::specs::Accepted::AreAccepted))]
-fn report_of_verdict(alloc: Global, image: &Image, witness: &Witness) -> Result<Vec<u8>, Status>
-    requires { AreWellFormed witness.now }
-    ensures comes { Comes (λ names. OfVerdict names image.now witness.now) result }
+fn report_of_file(alloc: Global, file: FileVerdict) -> Result<Vec<u8>, Status>
+    requires { IsReady file }
+    ensures comes { (image : Img) (bytes : List ℕ) → StandsForFile image bytes file → Comes (λ names. OfMachineTables names image bytes) result }
     ensures no_bad_words { IsErrOf result Status.BadWords → ⊥ }
+    ensures no_fault { IsErrOf result Status.HostFault → ⊥ }
 {
     one_verdict();
-    match verdict::verdict(alloc, image, witness) {
+    reads_or_fails();
+    one_text();
+    match file.finish() {
         Ok(Judgement::Broken(broken)) => Err(Status::Broken(broken)),
         Ok(Judgement::Accepted(public)) => match check_text(alloc, &public) {
             Ok(text) => Ok(text),
             Err(_) => Err(Status::NoMemory),
         },
-        Err(_) => Err(Status::NoMemory),
-    }
-}
-
-// The report of a table file for the image, or how the command ends without.
-fn report_of_file(alloc: Global, image: &Image, file: Vec<u8>) -> Result<Vec<u8>, Status>
-    ensures comes { Comes (λ names. OfMachineTables names image.now file.items) result }
-    ensures no_bad_words { IsErrOf result Status.BadWords → ⊥ }
-{
-    let Ok(shape) = machine_shape(alloc, Form::Two) else {
-        return Err(Status::NoMemory);
-    };
-    match tables_of(alloc, file, &shape) {
-        Ok(witness) => report_of_verdict(alloc, image, &witness),
-        Err(status) => Err(status),
+        Err(e) => match e.kind {
+            TabKind::NoMemory => Err(Status::NoMemory),
+            _ => Err(Status::BadTables(e)),
+        },
     }
 }
 
@@ -70,14 +66,18 @@ fn work<H: Host>(
         Ok(image) => image,
         Err(status) => return Err(status),
     };
-    match file_of(alloc, host, tables, TABLES_LIMIT) {
-        Ok(file) => report_of_file(alloc, &image, file),
+    let Ok(mut file) = FileVerdict::new(alloc, image) else {
+        return Err(Status::NoMemory);
+    };
+    match file_into(alloc, host, tables, TABLES_LIMIT, &mut file) {
+        Ok(()) => report_of_file(alloc, file),
         Err(e) => Err(stopped(e, Which::Tables)),
     }
 }
 
 /// The command `check ELF INPUT TABLES` (docs/COMMANDS.md): says whether the tables are accepted for the
-/// file and the input, with the public output that they have, or the first line that they break. It makes no run.
+/// file and the input, with the public output that they have, or the first line that they break. It makes no run. It reads
+/// the table file in pieces and keeps one table at a time.
 pub fn check_call<H: Host>(
     alloc: Global,
     host: &mut H,
@@ -92,7 +92,10 @@ pub fn check_call<H: Host>(
     ensures no_bad_words { result ≢ Status.BadWords }
     // It fails only where the host has failed.
     ensures fault { result ≡ Status.HostFault → HasRisen (H.faults host.old) (H.faults host.new) }
+    // What it comes to is the headline's.
+    ensures headline { CheckHeadline }
 {
+    check_headline();
     match work(alloc, host, elf, input, tables) {
         Ok(text) => finish(host, Status::Done, &text),
         Err(status) => refuse(alloc, host, status),

@@ -1,6 +1,6 @@
 //! What holds of every outcome.
 ghost use Rattle.std.specs.Prelude.{◌≡◌, ℕ, List};
-ghost use Rattle.zk_top.specs.Headline.{Headline};
+ghost use Rattle.zk_top.specs.Headline.{CheckHeadline, Headline};
 ghost use Rattle.zk_top.specs.Outcome.{Outcome, Contents, AreBytes, IsRunOutcome, IsWitnessOutcome, IsCheckOutcome, IsPilOutcome, IsDemoOutcome, IsOutcome};
 ghost use Rattle.host_io.specs.World.{Asked};
 ghost use Rattle.demo_program.specs.Demo.{IsSize};
@@ -34,12 +34,21 @@ pub fn headline()
 {
     one_command();
     one_answer();
+    run_law();
+    check_headline();
+}
+
+/// What it says of `check`.
+pub(crate) fn check_headline()
+    ensures { CheckHeadline }
+{
+    one_command();
+    one_answer();
     input_apart();
     loaded_is_loadable();
     one_verdict();
     one_text();
     reads_or_fails();
-    run_law();
     completeness();
     soundness_laws();
 }
