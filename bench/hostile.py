@@ -110,6 +110,40 @@ CHECKS = [
 ]
 
 
+def lines(count, head="", first="x=x;"):
+    """A text of so many lines, of which a tenth are `in`s and a twelfth `is`s, and its tables."""
+    parts = [first] + ["{x}in{x};" if n % 10 == 0 else "{x}is{x};" if n % 12 == 5 else "x=x;" for n in range(1, count)]
+    return f"namespace A(2);pol commit x;{head}" + "".join(parts), one_column([5, 7])
+
+
+def right_sides(count):
+    """A text of so many `in`s with 400 right sides in turn, and its tables."""
+    columns = b"".join(struct.pack("<2Q", n, n) for n in range(400))
+    text = "namespace A(2);pol commit a[400];" + "".join(f"{{a[{n % 400}]}}in{{a[{n % 400}]}};" for n in range(count))
+    return text, header(1) + struct.pack("<IIII", 0, 0, 400, 2) + columns
+
+
+def buses(count, rows):
+    """A text of so many `is`s over a column of so many rows, and its tables."""
+    return f"namespace A({rows});pol commit x;" + "{x}is{x};" * count, one_column(range(rows))
+
+
+def namespaces(count):
+    """A text of so many namespaces with a line each, and its tables."""
+    text = "".join(f"namespace a{n}(2);1=1;" for n in range(count))
+    return text, header(*[1] * count) + b"".join(struct.pack("<IIII", n, 0, 0, 2) for n in range(count))
+
+
+# Texts of many lines, in growing numbers: the time is to be linear in them.
+MANY_LINES = [
+    *((f"{n:,} lines", *lines(n), "accepted\n") for n in (50_000, 100_000, 200_000)),
+    *((f"{n:,} lines, a public", *lines(n, "public p=x(0);", "1=1+0*:p;"), "accepted\np 5\n") for n in (50_000, 100_000, 200_000)),
+    *((f"{n:,} ins, 400 right sides", *right_sides(n), "accepted\n") for n in (12_500, 25_000, 50_000)),
+    *((f"{n:,} ises, 2^12 rows", *buses(n, 1 << 12), "accepted\n") for n in (1_000, 20_000)),
+    *((f"{n:,} namespaces", *namespaces(n), "accepted\n") for n in (11_000, 22_000, 44_000)),
+]
+
+
 GB = 10**9
 MOST = (1 << 20, 1 << 22, 1 << 20, 1 << 22, 1 << 22, 1 << 21, 1)
 MACHINE = struct.pack("<4I7I", 0x54574B5A, 2, 1, 7, *MOST)
@@ -232,6 +266,8 @@ def main():
             measure(name, SMALL, table, wants)
         for name, text, table in CHECKS:
             measure(name, text, table, "accepted\n")
+        for name, text, table, wants in MANY_LINES:
+            measure(name, text, table, wants)
         for length in range(len(TABLES)):
             with open(pil, "w") as file:
                 file.write(SMALL)

@@ -1,13 +1,12 @@
 //! Checks tables against a constraint text, and says how long it took: `check_bench PIL TABLES [landed]`.
 #![tactic(auto)]
 
-ghost use Rattle.std.specs.Prelude.{◌≡◌, true};
 ghost use Rattle.pil_ast.specs.Tree.{namespaces};
 ghost use Rattle.pil_ast.specs.Columns.{Fits};
 ghost use Rattle.pil_ast.specs.Sound.{IsSound};
 
 use pil_ast::{Columns, Pil};
-use pil_program::{InstanceColumns, names_no_public};
+use pil_program::InstanceColumns;
 use row_check::Broken;
 use std::alloc::{AllocError, Global};
 use std::time::Instant;
@@ -41,10 +40,8 @@ fn check<C: InstanceColumns>(
 {
     if landed {
         Ok(outcome_of(bus_check::first_broken(alloc, pil, columns)?))
-    } else if names_no_public(pil) {
-        Ok(outcome_of(pil_checker::first_broken(alloc, pil, columns)?))
     } else {
-        Ok(Outcome::Unread)
+        Ok(outcome_of(pil_checker::first_broken(alloc, pil, columns)?))
     }
 }
 

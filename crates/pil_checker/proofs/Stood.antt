@@ -48,14 +48,14 @@ known-each ns nodes old new each h j q is =
 
 -- a plan whose parts have changed
 abbrev with_parts : Plan → Plan → Plan
-with_parts old new = record old { parts = new.parts }
+with_parts old new = record new { programs = old.programs; checks = old.checks; spans = old.spans; tables = old.tables }
 
 plan-is : (old new : Plan) → new.programs ≡ old.programs → new.checks ≡ old.checks → new.spans ≡ old.spans → new.tables ≡ old.tables → new ≡ with_parts old new
 plan-is old new a b d e =
-    ap (λ x. record { programs = x; checks = new.checks; spans = new.spans; tables = new.tables; parts = new.parts }) a
-    ∙ ap (λ x. record { programs = old.programs; checks = x; spans = new.spans; tables = new.tables; parts = new.parts }) b
-    ∙ ap (λ x. record { programs = old.programs; checks = old.checks; spans = x; tables = new.tables; parts = new.parts }) d
-    ∙ ap (λ x. record { programs = old.programs; checks = old.checks; spans = old.spans; tables = x; parts = new.parts }) e
+    ap (λ x. record new { programs = x }) a
+    ∙ ap (λ x. record new { programs = old.programs; checks = x }) b
+    ∙ ap (λ x. record new { programs = old.programs; checks = old.checks; spans = x }) d
+    ∙ ap (λ x. record new { programs = old.programs; checks = old.checks; spans = old.spans; tables = x }) e
 
 planned-each : (ns : List Namespace) (old new : Plan) → AtEach KeepsSender old.parts.items new.parts.items → IsPlanOf ns old → IsPlanOf ns (with_parts old new)
 planned-each ns old new each h = record {

@@ -8,6 +8,7 @@ mod placing;
 mod plans;
 mod rights;
 mod sameness;
+mod sizes;
 mod whole;
 
 pub use checker::Checker;

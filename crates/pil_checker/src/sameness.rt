@@ -49,3 +49,24 @@ pub fn same_list(a: &List, b: &List) -> bool
     }
     same_columns(a.exprs.as_slice(), b.exprs.as_slice())
 }
+
+/// A number that the columns of equal expressions share and others mostly don't.
+fn code_of_column(expr: &Expr) -> u64 {
+    match expr {
+        Expr::Column {
+            space: _,
+            column,
+            next,
+        } => *column as u64 * 2 + if *next { 1 } else { 0 },
+        _ => u64::MAX,
+    }
+}
+
+/// A number that equal lists of columns share and others mostly don't.
+pub fn code(list: &List) -> u64 {
+    let mut code = list.space as u64;
+    for expr in list.exprs.as_slice() {
+        code = (code ^ code_of_column(expr)).wrapping_mul(0x9e37_79b9_7f4a_7c15);
+    }
+    code
+}

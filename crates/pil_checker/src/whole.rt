@@ -9,8 +9,10 @@ ghost use Rattle.pil_program.specs.Publics.{NoneIsNamed};
 ghost use Rattle.pil_checker.specs.Standing.{IsBuilt, StandsFor, added};
 
 use crate::checker::Checker;
+use crate::sizes::suits_checker;
+use bus_check::first_broken as line_by_line;
 use pil_ast::{Columns, Pil};
-use pil_program::InstanceColumns;
+use pil_program::{InstanceColumns, names_no_public};
 use row_check::Broken;
 use std::alloc::{AllocError, Global};
 
@@ -39,9 +41,8 @@ fn add_space<C: InstanceColumns>(
     Ok(())
 }
 
-/// Checks all lines of a text that names no public: None exactly where each holds, else where the first
-/// broken one is broken (docs/PIL.md, "The first broken line").
-pub fn first_broken<C: InstanceColumns>(
+/// Checks all lines of a text that names no public.
+fn first_of_plain<C: InstanceColumns>(
     alloc: Global,
     pil: &Pil,
     columns: &C,
@@ -56,4 +57,23 @@ pub fn first_broken<C: InstanceColumns>(
         add_space(&mut checker, alloc, pil, columns, space)?;
     }
     checker.finish(alloc, pil)
+}
+
+/// Checks all lines of a text: None exactly where each holds, else where the first broken one is broken
+/// (docs/PIL.md, "The first broken line"). Where the text names a public, or a checker would keep too much,
+/// each line is checked by itself.
+pub fn first_broken<C: InstanceColumns>(
+    alloc: Global,
+    pil: &Pil,
+    columns: &C,
+) -> Result<Option<Broken>, AllocError>
+    requires sound { IsSound (namespaces pil.now) }
+    requires fits { Fits (namespaces pil.now) (C.values columns.now) }
+    ensures { IfOk result (λ found. MatchOption found (AllHold (namespaces pil.now) (C.values columns.now)) (λ broken. IsFirstBroken (namespaces pil.now) (C.values columns.now) broken)) }
+{
+    if names_no_public(pil) && suits_checker(pil, columns) {
+        first_of_plain(alloc, pil, columns)
+    } else {
+        line_by_line(alloc, pil, columns)
+    }
 }

@@ -12,9 +12,11 @@ use crate::ending::{finish, refuse};
 use crate::files::{file_of, stopped};
 use crate::report::pil_text;
 use crate::tables::{TABLES_LIMIT, tables_of};
-use bus_check::{first_broken, one_verdict};
+use bus_check::one_verdict;
 use host_io::Host;
 use pil_ast::{Columns, Pil};
+use pil_checker::first_broken;
+use pil_program::InstanceColumns;
 use pil_text::{PilKind, one_answer};
 use std::alloc::Global;
 use wit_columns::TableColumns;
@@ -41,7 +43,7 @@ fn constraints_of(alloc: Global, text: &[u8]) -> Result<Pil, Status>
 }
 
 // The report of the lines, or how the command ends without: where one is broken, by the first.
-fn verdict<C: Columns>(alloc: Global, pil: &Pil, columns: &C) -> Result<Vec<u8>, Status>
+fn verdict<C: InstanceColumns>(alloc: Global, pil: &Pil, columns: &C) -> Result<Vec<u8>, Status>
     requires sound { IsSound (namespaces pil.now) }
     requires fits { Fits (namespaces pil.now) (C.values columns.now) }
     ensures comes { Comes (λ names. OfLines names (namespaces pil.now) (C.values columns.now)) result }

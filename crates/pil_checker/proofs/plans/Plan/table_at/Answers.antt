@@ -1,6 +1,6 @@
-use Rattle.std.proofs.Common.{◌≡◌, ◌-◌, ◌<◌, length, sym, ◌∙◌, ap, arith}
+use Rattle.std.proofs.Common.{◌∙◌, ap}
 use Rattle.pil_ast.specs.Tree.{namespaces, tuples, line}
-use Rattle.pil_ast.specs.Term.{lookup, item_at}
+use Rattle.pil_ast.specs.Term.{item_at}
 use Rattle.pil_ast.specs.Holds.{lines}
 use Rattle.pil_laws.proofs.Lines.{item-found}
 use Rattle.pil_checker.specs.Programs.{nodes_at}
@@ -12,11 +12,9 @@ pub returns-then-same_list : goal.returns-then-same_list
 returns-then-same_list c =
     let ns = namespaces c.args.pil.now in
     let plan = c.args.self.now in
-    let k = c.args.number - 1 in
-    let first = c.requires.first in
-    let inside = c.requires.inside in
-    let check = read-found plan.checks.items k c.index.result.now (omega arith) c.index.ensures in
+    let k = c.args.number in
+    let check = read-found plan.checks.items k c.index.result.now c.requires.inside c.index.ensures in
     match-more c.table_of_check.result _ _
-    (λ t at d tabled. table-known ns d (nodes_at plan.programs.items) plan.tables.items c.index.result.now (item_at (lines ns) k) t (tuples c.in-Some-Lookup.field-0-0) (tuples c.in-Some-Lookup.other) (tuples c.args.right.now)
+    (λ t at d tabled. table-known ns d (nodes_at plan.programs.items) plan.tables.items c.index.result.now (item_at (lines ns) k) t (tuples c.in-Lookup.left) (tuples c.in-Lookup.other) (tuples c.args.right.now)
     (c.requires.planned.checks k c.index.result.now check) (tabled k c.index.result.now check) at
-    (item-found (lines ns) k (line c.in-Some-Lookup.field-0.now) (sym c.in-Some-Lookup.ensures) ∙ ap line c.in-Some-Lookup.field-0-is) (c.same_list.ensures c.if-same_list.true)) c.table_of_check.ensures
+    (item-found (lines ns) k (line c.line_at.result.now) c.line_at.ensures ∙ ap line c.in-Lookup.is) (c.same_list.ensures c.if-same_list.true)) c.table_of_check.ensures

@@ -1,7 +1,7 @@
 use Rattle.std.proofs.Common.{ℕ, ◌≡◌, ◌<◌, ◌≤◌}
 use Rattle.pil_ast.specs.Tree.{namespaces}
 use Rattle.pil_checker.specs.Standing.{IsBuilt, StandsFor, added}
-use Rattle.pil_checker.proofs.whole.first_broken.Given as goal
+use Rattle.pil_checker.proofs.whole.first_of_plain.Given as goal
 
 abbrev pub invariant-loop-space : goal.invariant-loop-space
 invariant-loop-space g l = record {

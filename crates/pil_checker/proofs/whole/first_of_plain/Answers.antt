@@ -1,11 +1,11 @@
-use Rattle.std.proofs.Common.{ℕ, ◌≡◌, ◌≢◌, ◌+◌, ◌<◌, ◌≤◌, inl, inr, length, refl, sym, ◌∙◌, ap, subst, arith}
+use Rattle.std.proofs.Common.{◌≡◌, inl, inr, refl, sym, ◌∙◌, ap, arith}
 use Rattle.std.proofs.lemmas.Bool.{cases_eq}
 use Rattle.std.proofs.lemmas.List.{length-map}
 use Rattle.std.proofs.lemmas.Result.{IfOk-weaker}
 use Rattle.pil_ast.specs.Tree.{namespace, namespaces}
 use Rattle.pil_checker.specs.Standing.{added}
 use Rattle.pil_checker.proofs.Grown.{few-spaces}
-use Rattle.pil_checker.proofs.whole.first_broken.Goals as goal
+use Rattle.pil_checker.proofs.whole.first_of_plain.Goals as goal
 
 pub overflow_cast-space-end : goal.overflow_cast-space-end
 overflow_cast-space-end g c =

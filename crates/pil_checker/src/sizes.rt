@@ -1,0 +1,77 @@
+//! Whether a checker suits whole tables: what its plan and the lines keep.
+ghost use Rattle.pil_ast.specs.Tree.{namespaces};
+ghost use Rattle.pil_ast.specs.Columns.{Fits};
+
+use pil_ast::{Columns, Item, List, Pil};
+
+/// A checker of whole tables keeps at most so many tuples.
+const MOST_KEPT: u64 = 1 << 26;
+
+/// It has at most so many programs, and goes through all lines for each.
+const MOST_SPACES: usize = 1 << 10;
+
+/// How many tuples a list sends at most.
+fn most_sent<C: Columns>(pil: &Pil, columns: &C, list: &List) -> u64
+    requires { Fits (namespaces pil.now) (C.values columns.now) }
+{
+    if list.space as usize >= pil.spaces.len() {
+        return 0;
+    }
+    let instances = columns.instances(list.space) as u64;
+    instances.saturating_mul(pil.rows(list.space) as u64)
+}
+
+/// How many tuples some lists send at most.
+fn most_of_lists<C: Columns>(pil: &Pil, columns: &C, lists: &[List]) -> u64
+    requires { Fits (namespaces pil.now) (C.values columns.now) }
+{
+    let mut most = 0u64;
+    for list in lists {
+        most = most.saturating_add(most_sent(pil, columns, list));
+    }
+    most
+}
+
+/// How many tuples an item keeps at most: those of the right side of an `in`, and of both sides of an `is`.
+fn most_of_item<C: Columns>(pil: &Pil, columns: &C, item: &Item) -> u64
+    requires { Fits (namespaces pil.now) (C.values columns.now) }
+{
+    match item {
+        Item::Lookup { left: _, right } => most_sent(pil, columns, right),
+        Item::Bus { left, right } => {
+            let sent = most_of_lists(pil, columns, left.as_slice());
+            sent.saturating_add(most_of_lists(pil, columns, right.as_slice()))
+        }
+        _ => 0,
+    }
+}
+
+/// How many tuples some items keep at most.
+fn most_of_items<C: Columns>(pil: &Pil, columns: &C, items: &[Item]) -> u64
+    requires { Fits (namespaces pil.now) (C.values columns.now) }
+{
+    let mut most = 0u64;
+    for item in items {
+        most = most.saturating_add(most_of_item(pil, columns, item));
+    }
+    most
+}
+
+/// How many tuples the lines of a text keep at most.
+fn most_kept<C: Columns>(pil: &Pil, columns: &C) -> u64
+    requires { Fits (namespaces pil.now) (C.values columns.now) }
+{
+    let mut most = 0u64;
+    for space in pil.spaces.as_slice() {
+        most = most.saturating_add(most_of_items(pil, columns, space.items.as_slice()));
+    }
+    most
+}
+
+/// Whether a checker of a text has few programs and keeps few tuples. Nothing rests on it but time and
+/// memory.
+pub fn suits_checker<C: Columns>(pil: &Pil, columns: &C) -> bool
+    requires { Fits (namespaces pil.now) (C.values columns.now) }
+{
+    pil.spaces.len() <= MOST_SPACES && most_kept(pil, columns) <= MOST_KEPT
+}
