@@ -7,8 +7,11 @@ use pil_ast::{Columns, Item, List, Pil};
 /// A checker of whole tables keeps at most so many tuples.
 const MOST_KEPT: u64 = 1 << 26;
 
-/// It has at most so many programs, and goes through all lines for each.
+/// It has at most so many programs.
 const MOST_SPACES: usize = 1 << 10;
+
+/// It goes through all lines for each instance, which comes to at most so many looks at a line.
+const MOST_LOOKS: u64 = 1 << 30;
 
 /// How many tuples a list sends at most.
 fn most_sent<C: Columns>(pil: &Pil, columns: &C, list: &List) -> u64
@@ -68,10 +71,35 @@ fn most_kept<C: Columns>(pil: &Pil, columns: &C) -> u64
     most
 }
 
-/// Whether a checker of a text has few programs and keeps few tuples. Nothing rests on it but time and
+/// How many instances there are of all namespaces.
+fn all_instances<C: Columns>(pil: &Pil, columns: &C) -> u64
+    requires { Fits (namespaces pil.now) (C.values columns.now) }
+{
+    let mut all = 0u64;
+    for number in 0..pil.spaces.len() {
+        let space = number as u32;
+        if (space as usize) < pil.spaces.len() {
+            all = all.saturating_add(columns.instances(space) as u64);
+        }
+    }
+    all
+}
+
+/// How many items there are in all namespaces, which are at least as many as lines.
+fn all_items(pil: &Pil) -> u64 {
+    let mut all = 0u64;
+    for space in pil.spaces.as_slice() {
+        all = all.saturating_add(space.items.len() as u64);
+    }
+    all
+}
+
+/// Whether a checker of a text has few programs, goes through few lines and keeps few tuples. Nothing rests on it but time and
 /// memory.
 pub fn suits_checker<C: Columns>(pil: &Pil, columns: &C) -> bool
     requires { Fits (namespaces pil.now) (C.values columns.now) }
 {
-    pil.spaces.len() <= MOST_SPACES && most_kept(pil, columns) <= MOST_KEPT
+    pil.spaces.len() <= MOST_SPACES
+        && all_instances(pil, columns).saturating_mul(all_items(pil)) <= MOST_LOOKS
+        && most_kept(pil, columns) <= MOST_KEPT
 }
