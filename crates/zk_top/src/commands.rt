@@ -46,15 +46,15 @@ pub fn top<R: Threads + Wait + Sync, H: Host, G: Gate + Sync>(
     headline();
     match read_words(words) {
         Some(Command::Run { elf, input, steps }) => run_call(alloc, host, elf, input, steps),
-        Some(Command::Witness {
-            elf,
-            input,
-            tables,
-            steps,
-            workers,
-        }) => witness_call(
-            rt, alloc, host, gate, elf, input, tables, steps, workers,
-        ),
+        Some(
+            Command::Witness {
+                elf,
+                input,
+                tables,
+                steps,
+                workers,
+            },
+        ) => witness_call(rt, alloc, host, gate, elf, input, tables, steps, workers),
         Some(Command::Check { elf, input, tables }) => check_call(alloc, host, elf, input, tables),
         Some(Command::Pil { text, tables }) => pil_call(alloc, host, text, tables),
         Some(Command::Machine { profile }) => print_call(alloc, host, profile),
