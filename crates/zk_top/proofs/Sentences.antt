@@ -26,9 +26,7 @@ use Rattle.row_check.specs.Breaks.{IsFirstBroken}
 use Rattle.machine_text.specs.Machine.{machine}
 use Rattle.machine_columns.specs.Values.{values_of}
 use Rattle.machine_columns.specs.Accepted.{AreAccepted, public_of}
-use Rattle.zk_words.specs.Words.{Reads}
-use Rattle.zk_words.specs.declared.command.Command.{Command}
-use Rattle.zk_words.specs.declared.command.Command.TheVariants.{Witness as MakeWitness, Check}
+use Rattle.zk_words.specs.Words.{Command, Witness as MakeWitness, Check, Reads}
 use Rattle.zk_words.specs.declared.command.TheConstants.{MOST_WORKERS}
 use Rattle.zk_words.specs.declared.status.Which.TheVariants as files
 use Rattle.zk_words.specs.declared.status.Status.TheVariants as statuses
@@ -43,34 +41,20 @@ use Rattle.zk_top.proofs.Checks.{OnProgram}
 
 module _ (one : (words : List (List ℕ)) (a b : Command) → Reads words a → Reads words b → a ≡ b) where
   -- words that read as a command come to what it comes to
-  of_command : (contents : Contents) (words : List (List ℕ)) (command : Command) (o : Outcome) → Reads words command → IsOutcome contents words o → IsOutcomeOf contents words command o
-  of_command contents words command o reads (inl h) = subst (λ (c : Command). IsOutcomeOf contents words c o) (one words h.0 command h.1 reads) h.2
+  of_command : (contents : Contents) (words : List (List ℕ)) (command : Command) (o : Outcome) → Reads words command → IsOutcome contents words o → IsOutcomeOf contents command o
+  of_command contents words command o reads (inl h) = subst (λ (c : Command). IsOutcomeOf contents c o) (one words h.0 command h.1 reads) h.2
   of_command contents words command o reads (inr h) = absurd (h.0 command reads)
 
   pub witness_outcome : (contents : Contents) (elf input tables : List ℕ) (steps workers : ℕ) (o : Outcome) → 0 < steps → steps < 2 ^ 32 → workers ≤ MOST_WORKERS
       → IsOutcome contents (witness_words elf input tables steps workers) o → IsWitnessOutcome contents elf input tables steps o
   witness_outcome contents elf input tables steps workers o some below few is =
       let words = witness_words elf input tables steps workers in
-      let reads : Reads words (MakeWitness steps workers) = (elf, input, tables, decimal steps, decimal workers, refl, (refl, omega arith, below), (refl, omega arith, omega arith)) in
-      let h = of_command contents words (MakeWitness steps workers) o reads is in
-      let e : elf ≡ h.0 = cc (h.5) in
-      let i : input ≡ h.1 = cc (h.5) in
-      let t : tables ≡ h.2 = cc (h.5) in
-      subst (λ (name : List ℕ). IsWitnessOutcome contents name input tables steps o) (sym e)
-      (subst (λ (name : List ℕ). IsWitnessOutcome contents h.0 name tables steps o) (sym i)
-      (subst (λ (name : List ℕ). IsWitnessOutcome contents h.0 h.1 name steps o) (sym t) h.6))
+      let command = MakeWitness elf input tables steps workers in
+      let reads : Reads words command = (decimal steps, decimal workers, refl, (refl, omega arith, below), (refl, omega arith, omega arith)) in
+      of_command contents words command o reads is
 
   pub check_outcome : (contents : Contents) (elf input tables : List ℕ) (o : Outcome) → IsOutcome contents (check_words elf input tables) o → IsCheckOutcome contents elf input tables o
-  check_outcome contents elf input tables o is =
-      let words = check_words elf input tables in
-      let reads : Reads words Check = (elf, input, tables, refl) in
-      let h = of_command contents words Check o reads is in
-      let e : elf ≡ h.0 = cc (h.3) in
-      let i : input ≡ h.1 = cc (h.3) in
-      let t : tables ≡ h.2 = cc (h.3) in
-      subst (λ (name : List ℕ). IsCheckOutcome contents name input tables o) (sym e)
-      (subst (λ (name : List ℕ). IsCheckOutcome contents h.0 name tables o) (sym i)
-      (subst (λ (name : List ℕ). IsCheckOutcome contents h.0 h.1 name o) (sym t) h.4))
+  check_outcome contents elf input tables o is = of_command contents (check_words elf input tables) (Check elf input tables) o refl is
 
 -- ---- the program
 

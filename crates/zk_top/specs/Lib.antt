@@ -1,4 +1,5 @@
 pub mod Outcome
+pub mod Shown
 pub mod Ends
 pub mod Parts
 pub mod Headline

@@ -34,10 +34,8 @@ use Rattle.machine_text.specs.Machine.{machine}
 use Rattle.machine_columns.specs.Values.{values_of as machine_values}
 use Rattle.machine_columns.specs.Accepted.{AreAccepted, public_of}
 use Rattle.run_tables.specs.Sequential.{sequential_witness}
-use Rattle.zk_words.specs.Words.{Reads}
+use Rattle.zk_words.specs.Words.{Command, Run, Witness as MakeWitness, Check, Pil, Machine, Demo, Reads}
 use Rattle.zk_words.specs.Lines.{line_of}
-use Rattle.zk_words.specs.declared.command.Command.{Command}
-use Rattle.zk_words.specs.declared.command.Command.TheVariants.{Run, Witness as MakeWitness, Check, Pil, Machine, Demo}
 use Rattle.zk_words.specs.declared.status.Which.{Which}
 use Rattle.zk_words.specs.declared.status.Which.TheVariants as files
 use Rattle.zk_words.specs.declared.status.Status.{Status}
@@ -222,19 +220,17 @@ pub record IsDemoOutcome (names : List Asked) (number : ℕ) (kind : DemoKind) (
   pub accepted : AreAccepted image (sequential_witness image steps public)
   pub is : o ≡ reporting names statuses.Done (demo_report steps public (sequential_witness image steps public))
 
--- what a command comes to, whose file names are the words at their places
-abbrev pub IsOutcomeOf : Contents → List (List ℕ) → Command → Outcome → Type 0
-IsOutcomeOf contents words (Run steps) o = (elf : List ℕ) × (input : List ℕ) × (text : List ℕ) × (words ≡ codes "run" ∷ elf ∷ input ∷ text ∷ []) × IsRunOutcome contents elf input steps o
-IsOutcomeOf contents words (MakeWitness steps workers) o =
-    (elf : List ℕ) × (input : List ℕ) × (tables : List ℕ) × (text : List ℕ) × (number : List ℕ)
-    × (words ≡ codes "witness" ∷ elf ∷ input ∷ tables ∷ text ∷ number ∷ []) × IsWitnessOutcome contents elf input tables steps o
-IsOutcomeOf contents words Check o = (elf : List ℕ) × (input : List ℕ) × (tables : List ℕ) × (words ≡ codes "check" ∷ elf ∷ input ∷ tables ∷ []) × IsCheckOutcome contents elf input tables o
-IsOutcomeOf contents words Pil o = (pil : List ℕ) × (tables : List ℕ) × (words ≡ codes "pil" ∷ pil ∷ tables ∷ []) × IsPilOutcome contents pil tables o
-IsOutcomeOf contents words (Machine profile) o = IsMachineOutcome [] profile o
-IsOutcomeOf contents words (Demo number kind size) o = IsDemoOutcome [] number kind size o
+-- what a command comes to
+abbrev pub IsOutcomeOf : Contents → Command → Outcome → Type 0
+IsOutcomeOf contents (Run elf input steps) o = IsRunOutcome contents elf input steps o
+IsOutcomeOf contents (MakeWitness elf input tables steps workers) o = IsWitnessOutcome contents elf input tables steps o
+IsOutcomeOf contents (Check elf input tables) o = IsCheckOutcome contents elf input tables o
+IsOutcomeOf contents (Pil text tables) o = IsPilOutcome contents text tables o
+IsOutcomeOf contents (Machine profile) o = IsMachineOutcome [] profile o
+IsOutcomeOf contents (Demo number kind size) o = IsDemoOutcome [] number kind size o
 
 -- what the words come to: they read as a command, or as none
 abbrev pub IsOutcome : Contents → List (List ℕ) → Outcome → Type 0
 IsOutcome contents words o =
-    ((command : Command) × Reads words command × IsOutcomeOf contents words command o)
+    ((command : Command) × Reads words command × IsOutcomeOf contents command o)
     ⊎ (((command : Command) → Reads words command → ⊥) × (o ≡ refused [] statuses.BadWords))

@@ -23,7 +23,7 @@ use wit_columns::TableColumns;
 use zk_words::{Status, Which};
 
 /// A constraint text has at most so many bytes.
-const TEXT_LIMIT: u64 = 1 << 20;
+pub const TEXT_LIMIT: u64 = 1 << 20;
 
 // The constraints of a text.
 fn constraints_of(alloc: Global, text: &[u8]) -> Result<Pil, Status>

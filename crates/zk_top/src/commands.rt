@@ -1,8 +1,7 @@
 //! The whole program over a host.
 ghost use Rattle.std.specs.Prelude.{◌≡◌, ◌≤◌, ◌⊎◌, List, ℕ};
 ghost use Rattle.host_io.specs.Calls.{HasRisen};
-ghost use Rattle.zk_words.specs.Words.{Reads, texts};
-ghost use Rattle.zk_words.specs.declared.command.Command.{Command as Asked};
+ghost use Rattle.zk_words.specs.Words.{Command as Asked, Reads, texts};
 ghost use Rattle.zk_top.specs.Outcome.{Outcome, IsOutcome};
 ghost use Rattle.zk_top.specs.Ends.{Ends};
 ghost use Rattle.zk_top.specs.Headline.{Headline};
@@ -46,38 +45,18 @@ pub fn top<R: Threads + Wait + Sync, H: Host, G: Gate + Sync>(
 {
     headline();
     match read_words(words) {
-        Some(Command::Run { steps }) => match words {
-            [_, elf, input, _] => run_call(alloc, host, elf.as_str(), input.as_str(), steps),
-            _ => unreachable!(),
-        },
-        Some(Command::Witness { steps, workers }) => match words {
-            [_, elf, input, tables, _, _] => witness_call(
-                rt,
-                alloc,
-                host,
-                gate,
-                elf.as_str(),
-                input.as_str(),
-                tables.as_str(),
+        Some(Command::Run { elf, input, steps }) => run_call(alloc, host, elf, input, steps),
+        Some(
+            Command::Witness {
+                elf,
+                input,
+                tables,
                 steps,
                 workers,
-            ),
-            _ => unreachable!(),
-        },
-        Some(Command::Check) => match words {
-            [_, elf, input, tables] => check_call(
-                alloc,
-                host,
-                elf.as_str(),
-                input.as_str(),
-                tables.as_str(),
-            ),
-            _ => unreachable!(),
-        },
-        Some(Command::Pil) => match words {
-            [_, pil, tables] => pil_call(alloc, host, pil.as_str(), tables.as_str()),
-            _ => unreachable!(),
-        },
+            },
+        ) => witness_call(rt, alloc, host, gate, elf, input, tables, steps, workers),
+        Some(Command::Check { elf, input, tables }) => check_call(alloc, host, elf, input, tables),
+        Some(Command::Pil { text, tables }) => pil_call(alloc, host, text, tables),
         Some(Command::Machine { profile }) => print_call(alloc, host, profile),
         Some(Command::Demo { number, kind, size }) => demo_call(alloc, host, number, kind, size),
         None => refuse(alloc, host, Status::BadWords),

@@ -13,6 +13,7 @@ mod loading;
 mod printing;
 mod report;
 mod running;
+mod shown;
 mod tables;
 #[cfg(test)]
 mod tests;
@@ -28,6 +29,7 @@ pub use judging::check_call;
 pub use laws::{headline, one_outcome};
 pub use printing::print_call;
 pub use running::run_call;
+pub use shown::broken_text;
 pub use wit_pool::{Gate, NoGate};
 pub use witnessing::{witness_call, witness_one};
 pub use zk_words::{DemoKind, Status, Which};

@@ -5,12 +5,10 @@ use Rattle.std.proofs.Math.ListN.{get_or}
 use Rattle.std.proofs.lemmas.Bool.{eqb-true, eqb-false, leb-true, leb-false}
 use Rattle.std.proofs.lemmas.Fmt.{decimal_injective}
 use Rattle.gold.specs.declared.shapes.Profile.TheVariants.{Small, Wide}
-use Rattle.zk_words.specs.declared.command.Command.{Command}
-use Rattle.zk_words.specs.declared.command.Command.TheVariants.{Run, Witness, Check, Pil, Machine, Demo}
 use Rattle.zk_words.specs.declared.command.TheConstants.{MOST_WORKERS}
 use Rattle.demo_program.specs.declared.kind.DemoKind.{DemoKind}
 use Rattle.demo_program.specs.declared.kind.DemoKind.TheVariants.{Alu, Mul, Mem}
-use Rattle.zk_words.specs.Words.{IsNumber, kind_word, Reads}
+use Rattle.zk_words.specs.Words.{Command, Run, Witness, Check, Pil, Machine, Demo, IsNumber, kind_word, Reads}
 
 -- ---- equal numbers, equal texts
 
@@ -75,19 +73,19 @@ abbrev Decided : List (List ℕ) → Type 0
 Decided words = ((command : Command) × Reads words command) ⊎ ((command : Command) → Reads words command → ⊥)
 
 none : (command : Command) → Reads [] command → ⊥
-none (Run n) h = cc
-none (Witness n m) h = cc
-none Check h = cc
-none Pil h = cc
+none (Run x y n) h = cc
+none (Witness x y z n m) h = cc
+none (Check x y z) h = cc
+none (Pil x y) h = cc
 none (Machine Small) h = cc
 none (Machine Wide) h = cc
 none (Demo n kind m) h = cc
 
 not_one : (a : List ℕ) → (a ≡ codes "machine" → ⊥) → (command : Command) → Reads (a ∷ []) command → ⊥
-not_one a ne (Run n) h = cc
-not_one a ne (Witness n m) h = cc
-not_one a ne Check h = cc
-not_one a ne Pil h = cc
+not_one a ne (Run x y n) h = cc
+not_one a ne (Witness x y z n m) h = cc
+not_one a ne (Check x y z) h = cc
+not_one a ne (Pil x y) h = cc
 not_one a ne (Machine Small) h = ne cc
 not_one a ne (Machine Wide) h = cc
 not_one a ne (Demo n kind m) h = cc
@@ -97,10 +95,10 @@ of_one a (inl e) = inl (Machine Small, ap (λ (x : List ℕ). x ∷ []) e)
 of_one a (inr ne) = inr (not_one a ne)
 
 not_two : (a b : List ℕ) → ((a ≡ codes "machine") → (b ≡ codes "wide") → ⊥) → (command : Command) → Reads (a ∷ b ∷ []) command → ⊥
-not_two a b ne (Run n) h = cc
-not_two a b ne (Witness n m) h = cc
-not_two a b ne Check h = cc
-not_two a b ne Pil h = cc
+not_two a b ne (Run x y n) h = cc
+not_two a b ne (Witness x y z n m) h = cc
+not_two a b ne (Check x y z) h = cc
+not_two a b ne (Pil x y) h = cc
 not_two a b ne (Machine Small) h = cc
 not_two a b ne (Machine Wide) h =
     let first : a ≡ codes "machine" = cc in
@@ -114,16 +112,16 @@ of_two a b (inl e) (inr ne) = inr (not_two a b (λ first second. ne second))
 of_two a b (inr ne) d = inr (not_two a b (λ first second. ne first))
 
 not_three : (a b c : List ℕ) → (a ≡ codes "pil" → ⊥) → (command : Command) → Reads (a ∷ b ∷ c ∷ []) command → ⊥
-not_three a b c ne (Run n) h = cc
-not_three a b c ne (Witness n m) h = cc
-not_three a b c ne Check h = cc
-not_three a b c ne Pil h = ne cc
+not_three a b c ne (Run x y n) h = cc
+not_three a b c ne (Witness x y z n m) h = cc
+not_three a b c ne (Check x y z) h = cc
+not_three a b c ne (Pil x y) h = ne cc
 not_three a b c ne (Machine Small) h = cc
 not_three a b c ne (Machine Wide) h = cc
 not_three a b c ne (Demo n kind m) h = cc
 
 of_three : (a b c : List ℕ) → (a ≡ codes "pil") ⊎ (a ≡ codes "pil" → ⊥) → Decided (a ∷ b ∷ c ∷ [])
-of_three a b c (inl e) = inl (Pil, (b, c, ap (λ (x : List ℕ). x ∷ b ∷ c ∷ []) e))
+of_three a b c (inl e) = inl (Pil b c, ap (λ (x : List ℕ). x ∷ b ∷ c ∷ []) e)
 of_three a b c (inr ne) = inr (not_three a b c ne)
 
 -- the word of a kind, and no other kind's
@@ -161,13 +159,13 @@ abbrev Draws : List ℕ → List ℕ → List ℕ → Type 0
 Draws b c d = (n : ℕ) × (kind : DemoKind) × (m : ℕ) × IsNumber 0 (2 ^ 64) b n × (c ≡ kind_word kind) × IsNumber 1 100001 d m
 
 not_four : (a b c d : List ℕ) → ((a ≡ codes "run") → (n : ℕ) → IsNumber 1 (2 ^ 32) d n → ⊥) → (a ≡ codes "check" → ⊥) → ((a ≡ codes "demo") → Draws b c d → ⊥) → (command : Command) → Reads (a ∷ b ∷ c ∷ d ∷ []) command → ⊥
-not_four a b c d run check demo (Run n) h =
+not_four a b c d run check demo (Run x y n) h =
     let first : a ≡ codes "run" = cc in
-    let last : h.2 ≡ d = cc in
-    run first n (subst (λ (t : List ℕ). IsNumber 1 (2 ^ 32) t n) last h.4)
-not_four a b c d run check demo (Witness n m) h = cc
-not_four a b c d run check demo Check h = check cc
-not_four a b c d run check demo Pil h = cc
+    let last : h.0 ≡ d = cc in
+    run first n (subst (λ (t : List ℕ). IsNumber 1 (2 ^ 32) t n) last h.2)
+not_four a b c d run check demo (Witness x y z n m) h = cc
+not_four a b c d run check demo (Check x y z) h = check cc
+not_four a b c d run check demo (Pil x y) h = cc
 not_four a b c d run check demo (Machine Small) h = cc
 not_four a b c d run check demo (Machine Wide) h = cc
 not_four a b c d run check demo (Demo n kind m) h =
@@ -178,7 +176,7 @@ not_four a b c d run check demo (Demo n kind m) h =
     demo first (n, kind, m, subst (λ (t : List ℕ). IsNumber 0 (2 ^ 64) t n) text h.3, named, subst (λ (t : List ℕ). IsNumber 1 100001 t m) last h.4)
 
 run_four : (a b c d : List ℕ) → a ≡ codes "run" → HasNumber 1 (2 ^ 32) d → Decided (a ∷ b ∷ c ∷ d ∷ [])
-run_four a b c d e (inl n) = inl (Run n.0, (b, c, d, ap (λ (x : List ℕ). x ∷ b ∷ c ∷ d ∷ []) e, n.1))
+run_four a b c d e (inl n) = inl (Run b c n.0, (d, ap (λ (x : List ℕ). x ∷ b ∷ c ∷ d ∷ []) e, n.1))
 run_four a b c d e (inr never) = inr (not_four a b c d (λ first n is. never n is) (λ first. cc) (λ first is. cc))
 
 has_draws : (b c d : List ℕ) → HasNumber 0 (2 ^ 64) b → HasKind c → HasNumber 1 100001 d → Draws b c d ⊎ (Draws b c d → ⊥)
@@ -194,43 +192,43 @@ demo_four a b c d e (inr never) = inr (not_four a b c d (λ first n is. cc) (λ 
 
 of_four : (a b c d : List ℕ) → (a ≡ codes "run") ⊎ (a ≡ codes "run" → ⊥) → (a ≡ codes "check") ⊎ (a ≡ codes "check" → ⊥) → (a ≡ codes "demo") ⊎ (a ≡ codes "demo" → ⊥) → Decided (a ∷ b ∷ c ∷ d ∷ [])
 of_four a b c d (inl e) check demo = run_four a b c d e (steps_number d)
-of_four a b c d (inr not_run) (inl e) demo = inl (Check, (b, c, d, ap (λ (x : List ℕ). x ∷ b ∷ c ∷ d ∷ []) e))
+of_four a b c d (inr not_run) (inl e) demo = inl (Check b c d, ap (λ (x : List ℕ). x ∷ b ∷ c ∷ d ∷ []) e)
 of_four a b c d (inr not_run) (inr not_check) (inl e) = demo_four a b c d e (has_draws b c d (draw_number b) (has_kind c) (size_number d))
 of_four a b c d (inr not_run) (inr not_check) (inr not_demo) = inr (not_four a b c d (λ first n is. not_run first) not_check (λ first is. not_demo first))
 
 not_six : (a b c d s w : List ℕ) → ((a ≡ codes "witness") → (n m : ℕ) → IsNumber 1 (2 ^ 32) s n → IsNumber 0 (MOST_WORKERS + 1) w m → ⊥) → (command : Command) → Reads (a ∷ b ∷ c ∷ d ∷ s ∷ w ∷ []) command → ⊥
-not_six a b c d s w never (Run n) h = cc
-not_six a b c d s w never (Witness n m) h =
+not_six a b c d s w never (Run x y n) h = cc
+not_six a b c d s w never (Witness x y z n m) h =
     let first : a ≡ codes "witness" = cc in
-    let steps : h.3 ≡ s = cc in
-    let workers : h.4 ≡ w = cc in
-    never first n m (subst (λ (t : List ℕ). IsNumber 1 (2 ^ 32) t n) steps h.6) (subst (λ (t : List ℕ). IsNumber 0 (MOST_WORKERS + 1) t m) workers h.7)
-not_six a b c d s w never Check h = cc
-not_six a b c d s w never Pil h = cc
+    let steps : h.0 ≡ s = cc in
+    let workers : h.1 ≡ w = cc in
+    never first n m (subst (λ (t : List ℕ). IsNumber 1 (2 ^ 32) t n) steps h.3) (subst (λ (t : List ℕ). IsNumber 0 (MOST_WORKERS + 1) t m) workers h.4)
+not_six a b c d s w never (Check x y z) h = cc
+not_six a b c d s w never (Pil x y) h = cc
 not_six a b c d s w never (Machine Small) h = cc
 not_six a b c d s w never (Machine Wide) h = cc
 not_six a b c d s w never (Demo n kind m) h = cc
 
 of_six : (a b c d s w : List ℕ) → (a ≡ codes "witness") ⊎ (a ≡ codes "witness" → ⊥) → HasNumber 1 (2 ^ 32) s → HasNumber 0 (MOST_WORKERS + 1) w → Decided (a ∷ b ∷ c ∷ d ∷ s ∷ w ∷ [])
 of_six a b c d s w (inr ne) n m = inr (not_six a b c d s w (λ first k l ks ls. ne first))
-of_six a b c d s w (inl e) (inl n) (inl m) = inl (Witness n.0 m.0, (b, c, d, s, w, ap (λ (x : List ℕ). x ∷ b ∷ c ∷ d ∷ s ∷ w ∷ []) e, n.1, m.1))
+of_six a b c d s w (inl e) (inl n) (inl m) = inl (Witness b c d n.0 m.0, (s, w, ap (λ (x : List ℕ). x ∷ b ∷ c ∷ d ∷ s ∷ w ∷ []) e, n.1, m.1))
 of_six a b c d s w (inl e) (inr never) m = inr (not_six a b c d s w (λ first k l ks ls. never k ks))
 of_six a b c d s w (inl e) (inl n) (inr never) = inr (not_six a b c d s w (λ first k l ks ls. never l ls))
 
 not_five : (a b c d e : List ℕ) (command : Command) → Reads (a ∷ b ∷ c ∷ d ∷ e ∷ []) command → ⊥
-not_five a b c d e (Run n) h = cc
-not_five a b c d e (Witness n m) h = cc
-not_five a b c d e Check h = cc
-not_five a b c d e Pil h = cc
+not_five a b c d e (Run x y n) h = cc
+not_five a b c d e (Witness x y z n m) h = cc
+not_five a b c d e (Check x y z) h = cc
+not_five a b c d e (Pil x y) h = cc
 not_five a b c d e (Machine Small) h = cc
 not_five a b c d e (Machine Wide) h = cc
 not_five a b c d e (Demo n kind m) h = cc
 
 not_more : (a b c d e f g : List ℕ) (ws : List (List ℕ)) (command : Command) → Reads (a ∷ b ∷ c ∷ d ∷ e ∷ f ∷ g ∷ ws) command → ⊥
-not_more a b c d e f g ws (Run n) h = cc
-not_more a b c d e f g ws (Witness n m) h = cc
-not_more a b c d e f g ws Check h = cc
-not_more a b c d e f g ws Pil h = cc
+not_more a b c d e f g ws (Run x y n) h = cc
+not_more a b c d e f g ws (Witness x y z n m) h = cc
+not_more a b c d e f g ws (Check x y z) h = cc
+not_more a b c d e f g ws (Pil x y) h = cc
 not_more a b c d e f g ws (Machine Small) h = cc
 not_more a b c d e f g ws (Machine Wide) h = cc
 not_more a b c d e f g ws (Demo n kind m) h = cc
@@ -248,58 +246,65 @@ decided (a ∷ b ∷ c ∷ d ∷ e ∷ f ∷ g ∷ ws) = inr (not_more a b c d e
 -- ---- one command
 
 pub one : (words : List (List ℕ)) (a b : Command) → Reads words a → Reads words b → a ≡ b
-one words (Run s) (Run t) h k =
-    let same : h.2 ≡ k.2 = cc in
-    ap (λ (n : ℕ). Run n) (one_number 1 (2 ^ 32) h.2 s t (omega arith) h.4 k.4.2 (same ∙ k.4.0))
-one words (Run s) (Witness t m) h k = cc
-one words (Run s) Check h k = cc
-one words (Run s) Pil h k = cc
-one words (Run s) (Machine Small) h k = cc
-one words (Run s) (Machine Wide) h k = cc
-one words (Run s) (Demo t other l) h k = cc
-one words (Witness s m) (Run t) h k = cc
-one words (Witness s m) (Witness t l) h k =
-    let steps : h.3 ≡ k.3 = cc in
-    let workers : h.4 ≡ k.4 = cc in
-    ap (λ (n : ℕ). Witness n m) (one_number 1 (2 ^ 32) h.3 s t (omega arith) h.6 k.6.2 (steps ∙ k.6.0))
-    ∙ ap (λ (n : ℕ). Witness t n) (one_number 0 (MOST_WORKERS + 1) h.4 m l (omega arith) h.7 k.7.2 (workers ∙ k.7.0))
-one words (Witness s m) Check h k = cc
-one words (Witness s m) Pil h k = cc
-one words (Witness s m) (Machine Small) h k = cc
-one words (Witness s m) (Machine Wide) h k = cc
-one words (Witness s m) (Demo t other l) h k = cc
-one words Check (Run t) h k = cc
-one words Check (Witness t m) h k = cc
-one words Check Check h k = refl
-one words Check Pil h k = cc
-one words Check (Machine Small) h k = cc
-one words Check (Machine Wide) h k = cc
-one words Check (Demo t other l) h k = cc
-one words Pil (Run t) h k = cc
-one words Pil (Witness t m) h k = cc
-one words Pil Check h k = cc
-one words Pil Pil h k = refl
-one words Pil (Machine Small) h k = cc
-one words Pil (Machine Wide) h k = cc
-one words Pil (Demo t other l) h k = cc
-one words (Machine Small) (Run t) h k = cc
-one words (Machine Small) (Witness t m) h k = cc
-one words (Machine Small) Check h k = cc
-one words (Machine Small) Pil h k = cc
+one words (Run x y s) (Run u v t) h k =
+    let elf : x ≡ u = cc in
+    let input : y ≡ v = cc in
+    let same : h.0 ≡ k.0 = cc in
+    ap (λ (e : List ℕ). Run e y s) elf ∙ ap (λ (i : List ℕ). Run u i s) input
+    ∙ ap (λ (n : ℕ). Run u v n) (one_number 1 (2 ^ 32) h.0 s t (omega arith) h.2 k.2.2 (same ∙ k.2.0))
+one words (Run x y s) (Witness u v w t l) h k = cc
+one words (Run x y s) (Check u v w) h k = cc
+one words (Run x y s) (Pil u v) h k = cc
+one words (Run x y s) (Machine Small) h k = cc
+one words (Run x y s) (Machine Wide) h k = cc
+one words (Run x y s) (Demo t other l) h k = cc
+one words (Witness x y z s m) (Run u v t) h k = cc
+one words (Witness x y z s m) (Witness u v w t l) h k =
+    let elf : x ≡ u = cc in
+    let input : y ≡ v = cc in
+    let tables : z ≡ w = cc in
+    let steps : h.0 ≡ k.0 = cc in
+    let workers : h.1 ≡ k.1 = cc in
+    ap (λ (e : List ℕ). Witness e y z s m) elf ∙ ap (λ (i : List ℕ). Witness u i z s m) input ∙ ap (λ (f : List ℕ). Witness u v f s m) tables
+    ∙ ap (λ (n : ℕ). Witness u v w n m) (one_number 1 (2 ^ 32) h.0 s t (omega arith) h.3 k.3.2 (steps ∙ k.3.0))
+    ∙ ap (λ (n : ℕ). Witness u v w t n) (one_number 0 (MOST_WORKERS + 1) h.1 m l (omega arith) h.4 k.4.2 (workers ∙ k.4.0))
+one words (Witness x y z s m) (Check u v w) h k = cc
+one words (Witness x y z s m) (Pil u v) h k = cc
+one words (Witness x y z s m) (Machine Small) h k = cc
+one words (Witness x y z s m) (Machine Wide) h k = cc
+one words (Witness x y z s m) (Demo t other l) h k = cc
+one words (Check x y z) (Run u v t) h k = cc
+one words (Check x y z) (Witness u v w t l) h k = cc
+one words (Check x y z) (Check u v w) h k = cc
+one words (Check x y z) (Pil u v) h k = cc
+one words (Check x y z) (Machine Small) h k = cc
+one words (Check x y z) (Machine Wide) h k = cc
+one words (Check x y z) (Demo t other l) h k = cc
+one words (Pil x y) (Run u v t) h k = cc
+one words (Pil x y) (Witness u v w t l) h k = cc
+one words (Pil x y) (Check u v w) h k = cc
+one words (Pil x y) (Pil u v) h k = cc
+one words (Pil x y) (Machine Small) h k = cc
+one words (Pil x y) (Machine Wide) h k = cc
+one words (Pil x y) (Demo t other l) h k = cc
+one words (Machine Small) (Run u v t) h k = cc
+one words (Machine Small) (Witness u v w t l) h k = cc
+one words (Machine Small) (Check u v w) h k = cc
+one words (Machine Small) (Pil u v) h k = cc
 one words (Machine Small) (Machine Small) h k = refl
 one words (Machine Small) (Machine Wide) h k = cc
 one words (Machine Small) (Demo t other l) h k = cc
-one words (Machine Wide) (Run t) h k = cc
-one words (Machine Wide) (Witness t m) h k = cc
-one words (Machine Wide) Check h k = cc
-one words (Machine Wide) Pil h k = cc
+one words (Machine Wide) (Run u v t) h k = cc
+one words (Machine Wide) (Witness u v w t l) h k = cc
+one words (Machine Wide) (Check u v w) h k = cc
+one words (Machine Wide) (Pil u v) h k = cc
 one words (Machine Wide) (Machine Small) h k = cc
 one words (Machine Wide) (Machine Wide) h k = refl
 one words (Machine Wide) (Demo t other l) h k = cc
-one words (Demo s kind m) (Run t) h k = cc
-one words (Demo s kind m) (Witness t l) h k = cc
-one words (Demo s kind m) Check h k = cc
-one words (Demo s kind m) Pil h k = cc
+one words (Demo s kind m) (Run u v t) h k = cc
+one words (Demo s kind m) (Witness u v w t l) h k = cc
+one words (Demo s kind m) (Check u v w) h k = cc
+one words (Demo s kind m) (Pil u v) h k = cc
 one words (Demo s kind m) (Machine Small) h k = cc
 one words (Demo s kind m) (Machine Wide) h k = cc
 one words (Demo s kind m) (Demo t other l) h k =

@@ -1,8 +1,7 @@
 //! The words of the command line.
-ghost use Rattle.std.specs.Prelude.{◌≡◌, ◌⊎◌, ℕ, ◌+◌, ◌<◌, ◌≤◌, ◌^◌, List, [], ◌∷◌, IfSome, Some, codes, decimal};
+ghost use Rattle.std.specs.Prelude.{◌≡◌, ◌⊎◌, ℕ, ◌+◌, ◌<◌, ◌≤◌, ◌^◌, List, [], ◌∷◌, IfSome, Some, codes, decimal, option_map};
 ghost use Rattle.demo_program.specs.declared.kind.DemoKind.{DemoKind as Kind};
-ghost use Rattle.zk_words.specs.Words.{Reads, texts, kind_word, IsNumber};
-ghost use Rattle.zk_words.specs.declared.command.Command.{Command};
+ghost use Rattle.zk_words.specs.Words.{Command as Asked, asked, Reads, IsAnswer, texts, kind_word, IsNumber};
 
 use demo_program::DemoKind;
 use gold::Profile;
@@ -14,22 +13,34 @@ pub const MOST_WORKERS: u32 = 64;
 /// A demo program draws at most so many instructions.
 const MOST_DRAWN: u32 = 100_000;
 
-/// What the words ask for. A command's file names are the words at their places.
+/// What the words ask for, with the names of its files.
 #[derive(Clone, Copy, Debug, PartialEq, Eq)]
-pub enum Command {
+pub enum Command<'a> {
     /// `run ELF INPUT STEPS`
     Run {
+        elf: &'a str,
+        input: &'a str,
         steps: u32,
     },
     /// `witness ELF INPUT TABLES STEPS WORKERS`
     Witness {
+        elf: &'a str,
+        input: &'a str,
+        tables: &'a str,
         steps: u32,
         workers: u32,
     },
     /// `check ELF INPUT TABLES`
-    Check,
+    Check {
+        elf: &'a str,
+        input: &'a str,
+        tables: &'a str,
+    },
     /// `pil PILFILE TABLES`
-    Pil,
+    Pil {
+        text: &'a str,
+        tables: &'a str,
+    },
     /// `machine` is Small's, `machine wide` is Wide's.
     Machine {
         profile: Profile,
@@ -72,20 +83,6 @@ fn number_from(least: u32, most: u32, text: &str) -> Option<u32>
     }
 }
 
-// The command of two words.
-fn of_two(first: &str, second: &str) -> Option<Command>
-    ensures found { IfSome result (Reads (first.now ∷ second.now ∷ [])) }
-    ensures only { (c : Command) → Reads (first.now ∷ second.now ∷ []) c → result ≡ Some c }
-{
-    if first == "machine" && second == "wide" {
-        Some(Command::Machine {
-            profile: Profile::Wide,
-        })
-    } else {
-        None
-    }
-}
-
 // The kind of demo program that a word names.
 fn kind_of(text: &str) -> Option<DemoKind>
     ensures found { IfSome result (λ kind. text.now ≡ kind_word kind) }
@@ -99,10 +96,9 @@ fn kind_of(text: &str) -> Option<DemoKind>
     }
 }
 
-// The command of four words, of which the first is `demo`.
-fn of_demo(text: &str, kind: &str, size: &str) -> Option<Command>
-    ensures found { IfSome result (Reads (codes "demo" ∷ text.now ∷ kind.now ∷ size.now ∷ [])) }
-    ensures only { (command : Command) → Reads (codes "demo" ∷ text.now ∷ kind.now ∷ size.now ∷ []) command → result ≡ Some command }
+// `demo` with these words.
+fn demo<'a>(text: &'a str, kind: &'a str, size: &'a str) -> Option<Command<'a>>
+    ensures { IsAnswer (codes "demo" ∷ text.now ∷ kind.now ∷ size.now ∷ []) result }
 {
     match (
         number(text),
@@ -114,67 +110,147 @@ fn of_demo(text: &str, kind: &str, size: &str) -> Option<Command>
     }
 }
 
-// The command of four words.
-fn of_four(first: &str, second: &str, third: &str, last: &str) -> Option<Command>
-    ensures found { IfSome result (Reads (first.now ∷ second.now ∷ third.now ∷ last.now ∷ [])) }
-    ensures only { (command : Command) → Reads (first.now ∷ second.now ∷ third.now ∷ last.now ∷ []) command → result ≡ Some command }
+// `run` with these words.
+fn run<'a>(elf: &'a str, input: &'a str, steps: &'a str) -> Option<Command<'a>>
+    ensures { IsAnswer (codes "run" ∷ elf.now ∷ input.now ∷ steps.now ∷ []) result }
 {
-    match first {
-        "run" => match number_from(1, u32::MAX, last) {
-            Some(steps) => Some(Command::Run { steps }),
-            None => None,
-        },
-        "check" => Some(Command::Check),
-        "demo" => of_demo(second, third, last),
-        _ => None,
+    match number_from(1, u32::MAX, steps) {
+        Some(steps) => Some(Command::Run { elf, input, steps }),
+        None => None,
     }
 }
 
-// The command of six words, of which these are the first and the last two.
-fn of_six(first: &str, steps: &str, workers: &str) -> Option<Command>
-    ensures found { (b c d : List ℕ) → IfSome result (Reads (first.now ∷ b ∷ c ∷ d ∷ steps.now ∷ workers.now ∷ [])) }
-    ensures only { (b c d : List ℕ) (command : Command) → Reads (first.now ∷ b ∷ c ∷ d ∷ steps.now ∷ workers.now ∷ []) command → result ≡ Some command }
+// `witness` with these words.
+fn witness<'a>(
+    elf: &'a str,
+    input: &'a str,
+    tables: &'a str,
+    steps: &'a str,
+    workers: &'a str,
+) -> Option<Command<'a>>
+    ensures { IsAnswer (codes "witness" ∷ elf.now ∷ input.now ∷ tables.now ∷ steps.now ∷ workers.now ∷ []) result }
 {
-    if first != "witness" {
-        return None;
-    }
     match (
         number_from(1, u32::MAX, steps),
         number_from(0, MOST_WORKERS, workers),
     ) {
-        (Some(steps), Some(workers)) => Some(Command::Witness { steps, workers }),
+        (Some(steps), Some(workers)) => Some(Command::Witness {
+            elf,
+            input,
+            tables,
+            steps,
+            workers,
+        }),
         _ => None,
     }
 }
 
+// The command of one word.
+fn of_one<'a>(word: &'a str) -> Option<Command<'a>>
+    ensures { IsAnswer (word.now ∷ []) result }
+{
+    if word == "machine" {
+        Some(Command::Machine {
+            profile: Profile::Small,
+        })
+    } else {
+        None
+    }
+}
+
+// The command of two words.
+fn of_two<'a>(first: &'a str, second: &'a str) -> Option<Command<'a>>
+    ensures { IsAnswer (first.now ∷ second.now ∷ []) result }
+{
+    if first == "machine" && second == "wide" {
+        Some(Command::Machine {
+            profile: Profile::Wide,
+        })
+    } else {
+        None
+    }
+}
+
+// The command of three words.
+fn of_three<'a>(first: &'a str, text: &'a str, tables: &'a str) -> Option<Command<'a>>
+    ensures { IsAnswer (first.now ∷ text.now ∷ tables.now ∷ []) result }
+{
+    if first == "pil" {
+        Some(Command::Pil { text, tables })
+    } else {
+        None
+    }
+}
+
+// The command of four words.
+fn of_four<'a>(
+    first: &'a str,
+    second: &'a str,
+    third: &'a str,
+    last: &'a str,
+) -> Option<Command<'a>>
+    ensures { IsAnswer (first.now ∷ second.now ∷ third.now ∷ last.now ∷ []) result }
+{
+    match first {
+        "run" => run(second, third, last),
+        "check" => Some(Command::Check {
+            elf: second,
+            input: third,
+            tables: last,
+        }),
+        "demo" => demo(second, third, last),
+        _ => None,
+    }
+}
+
+// The command of six words.
+fn of_six<'a>(
+    first: &'a str,
+    elf: &'a str,
+    input: &'a str,
+    tables: &'a str,
+    steps: &'a str,
+    workers: &'a str,
+) -> Option<Command<'a>>
+    ensures { IsAnswer (first.now ∷ elf.now ∷ input.now ∷ tables.now ∷ steps.now ∷ workers.now ∷ []) result }
+{
+    if first == "witness" {
+        witness(elf, input, tables, steps, workers)
+    } else {
+        None
+    }
+}
+
 /// The command that the words read as, if they read as one.
-pub fn read_words(words: &[String]) -> Option<Command>
-    ensures found { IfSome result (Reads (texts words.now)) }
-    ensures only { (c : Command) → Reads (texts words.now) c → result ≡ Some c }
+pub fn read_words<'a>(words: &'a [String]) -> Option<Command<'a>>
+    ensures { IsAnswer (texts words.now) result }
 {
     match words {
-        [name] if name.as_str() == "machine" => Some(Command::Machine {
-            profile: Profile::Small,
-        }),
+        [word] => of_one(word.as_str()),
         [first, second] => of_two(first.as_str(), second.as_str()),
-        [name, _, _] if name.as_str() == "pil" => Some(Command::Pil),
+        [first, text, tables] => of_three(first.as_str(), text.as_str(), tables.as_str()),
         [first, second, third, last] => of_four(
             first.as_str(),
             second.as_str(),
             third.as_str(),
             last.as_str(),
         ),
-        [first, _, _, _, steps, workers] => {
-            of_six(first.as_str(), steps.as_str(), workers.as_str())
-        }
+        [first, elf, input, tables, steps, workers] => of_six(
+            first.as_str(),
+            elf.as_str(),
+            input.as_str(),
+            tables.as_str(),
+            steps.as_str(),
+            workers.as_str(),
+        ),
         _ => None,
     }
 }
 
 /// Any words read as one command, or as none.
 pub fn one_command()
-    ensures decided { (words : List (List ℕ)) → ((command : Command) × Reads words command) ⊎ ((command : Command) → Reads words command → ⊥) }
-    ensures one { (words : List (List ℕ)) (a b : Command) → Reads words a → Reads words b → a ≡ b }
+    ensures decided { (words : List (List ℕ)) → ((command : Asked) × Reads words command) ⊎ ((command : Asked) → Reads words command → ⊥) }
+    ensures one { (words : List (List ℕ)) (a b : Asked) → Reads words a → Reads words b → a ≡ b }
 {}
 
 #[cfg(test)]
@@ -194,23 +270,48 @@ mod tests {
     #[test]
     fn a_command_has_its_words_and_no_others(rt: HostRuntime) -> Result<(), Fail> {
         let alloc = rt.alloc();
-        for (line, steps) in [
-            ("run|a|b|3", 3),
-            ("run|||1", 1),
-            ("run|a b|c|4294967295", u32::MAX),
+        for (line, elf, input, steps) in [
+            ("run|a|b|3", "a", "b", 3),
+            ("run|||1", "", "", 1),
+            ("run|a b|c|4294967295", "a b", "c", u32::MAX),
         ] {
             let words = words(alloc, line)?;
             assert_eq!(rt;
                 read_words(&words),
-                Some(Command::Run { steps }),
+                Some(Command::Run { elf, input, steps }),
                 "at {line}"
             );
         }
         for (line, command) in [
-            ("pil|a|b", Command::Pil),
-            ("pil||", Command::Pil),
-            ("pil|pil|pil", Command::Pil),
-            ("check|a|b|c", Command::Check),
+            (
+                "pil|a|b",
+                Command::Pil {
+                    text: "a",
+                    tables: "b",
+                },
+            ),
+            (
+                "pil||",
+                Command::Pil {
+                    text: "",
+                    tables: "",
+                },
+            ),
+            (
+                "pil|pil|pil",
+                Command::Pil {
+                    text: "pil",
+                    tables: "pil",
+                },
+            ),
+            (
+                "check|a|b|c",
+                Command::Check {
+                    elf: "a",
+                    input: "b",
+                    tables: "c",
+                },
+            ),
             (
                 "machine",
                 Command::Machine {
@@ -242,6 +343,9 @@ mod tests {
             (
                 "witness|a|b|c|20|0",
                 Command::Witness {
+                    elf: "a",
+                    input: "b",
+                    tables: "c",
                     steps: 20,
                     workers: 0,
                 },
@@ -249,6 +353,9 @@ mod tests {
             (
                 "witness|a|b|c|1|64",
                 Command::Witness {
+                    elf: "a",
+                    input: "b",
+                    tables: "c",
                     steps: 1,
                     workers: 64,
                 },

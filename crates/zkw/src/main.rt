@@ -9,7 +9,7 @@ use std::io::{self, ErrorKind, IsTerminal};
 use std::process::ExitCode;
 use std::sync::Wait;
 use std::thread::Threads;
-use zk_top::{NoGate, Status, top};
+use zk_top::{NoGate, Status, broken_text, top};
 
 /// Memory ran out while the words were taken.
 const NO_MEMORY: u8 = 10;
@@ -38,18 +38,28 @@ fn status_of(rt: &HostRuntime, threads: &(impl Threads + Wait + Sync), words: &[
     status
 }
 
-// Says what a refusal is. Where standard error can't be written, the status's code is left to say it.
-fn say(rt: &HostRuntime, status: &Status) {
-    if status.code() != 0 {
-        let _said = eprintln!(rt; "zkw: {status}");
+// Says what a refusal is, and behind that what a broken line says. Where standard error can't be written, the status's
+// code is left to say it.
+fn say(rt: &HostRuntime, words: &[String], status: &Status) {
+    if status.code() == 0 {
+        return;
     }
+    let mut host = OsHost::new(rt.alloc(), rt);
+    let _said = match broken_text(rt.alloc(), &mut host, words, status) {
+        Some(line) => {
+            let space = str::from_utf8(&line.space).unwrap_or("?");
+            let text = str::from_utf8(&line.text).unwrap_or("?");
+            eprintln!(rt; "zkw: {status}. In {space}: {text}")
+        }
+        None => eprintln!(rt; "zkw: {status}"),
+    };
 }
 
 fn main(rt: HostRuntime) -> ExitCode {
     match words(&rt) {
         Ok(words) => {
             let status = status_of(&rt, &rt, &words);
-            say(&rt, &status);
+            say(&rt, &words, &status);
             ExitCode::from(status.code())
         }
         Err(e) if e.kind() == ErrorKind::OutOfMemory => ExitCode::from(NO_MEMORY),
