@@ -1,5 +1,5 @@
 //! `namespace A(2); pol commit x, y, s;` with `s {x} is {y};` or `s {x} in {y};`, over two instances.
-ghost use Rattle.std.specs.Prelude.{◌≡◌, [], None, map, IfOk};
+ghost use Rattle.std.specs.Prelude.{◌≡◌, ◌<◌, [], None, map, IfOk};
 ghost use Rattle.pil_ast.specs.Term.{commit as commit'};
 ghost use Rattle.pil_ast.specs.Tree.{tuples as list_of, line as line_of_item, namespaces};
 ghost use Rattle.bus_check.specs.Small.{small_left, small_right, small_is, small_in, small_items, small_text};
@@ -122,6 +122,67 @@ fn first_of_in(alloc: Global, cells: &Cells) -> Result<Option<Broken>, AllocErro
     let item = in_item(alloc)?;
     let pil = text(alloc, item)?;
     first_broken(alloc, &pil, cells)
+}
+
+// The first difference of the `is` over this instance alone.
+fn difference_of_one(
+    alloc: Global,
+    cells: &Cells,
+    instance: u32,
+) -> Result<Option<Broken>, AllocError>
+    requires { instance < 2 }
+{
+    let item = is_item(alloc)?;
+    let pil = text(alloc, item)?;
+    let mut run = BusRun::new(alloc, &pil)?;
+    run.add(alloc, &pil, cells, 0, instance)?;
+    run.finish(alloc, 1)
+}
+
+// The first difference of the `is` over both instances, the second one added first.
+fn difference_of_both(alloc: Global, cells: &Cells) -> Result<Option<Broken>, AllocError> {
+    let item = is_item(alloc)?;
+    let pil = text(alloc, item)?;
+    let mut run = BusRun::new(alloc, &pil)?;
+    run.add(alloc, &pil, cells, 0, 1)?;
+    run.add(alloc, &pil, cells, 0, 0)?;
+    run.finish(alloc, 1)
+}
+
+#[test]
+fn counts_of_one_instance(rt: HostRuntime) -> Result<(), Fail> {
+    // Instance 0 has 5 and 5 in x and 5 and 6 in y; instance 1 isn't added.
+    let cells = Cells {
+        cells: [5, 5, 5, 6, 1, 1, 4, 4, 4, 3, 1, 1],
+    };
+    match difference_of_one(rt.alloc(), &cells, 0)? {
+        Some(
+            Broken::Counts {
+                line,
+                tuple,
+                left,
+                right,
+            },
+        ) => {
+            assert_eq!(rt; line, 1);
+            assert_eq!(rt; tuple.as_slice(), [5].as_slice());
+            assert_eq!(rt; (left, right), (2, 1));
+            Ok(())
+        }
+        _ => Err("no counts")?,
+    }
+}
+
+#[test]
+fn counts_in_any_order(rt: HostRuntime) -> Result<(), Fail> {
+    // Over both instances the sides agree, over either alone they don't.
+    let cells = Cells {
+        cells: [5, 7, 5, 6, 1, 1, 6, 4, 7, 4, 1, 1],
+    };
+    assert!(rt; difference_of_both(rt.alloc(), &cells)?.is_none());
+    assert!(rt; difference_of_one(rt.alloc(), &cells, 0)?.is_some());
+    assert!(rt; difference_of_one(rt.alloc(), &cells, 1)?.is_some());
+    Ok(())
 }
 
 #[test]
