@@ -1,6 +1,6 @@
 -- The text of a line: where its statement stands in the printed text (pil_print/specs/Printed.antt), each statement of which
 -- is a line of bytes.
-use Rattle.std.specs.Prelude.{ℕ, suc, ◌-◌, ◌<◌, ◌≤◌, ◌≡◌, ◌⊎◌, List, [], ◌∷◌, length, take, slice_get, Option, Some, None}
+use Rattle.std.specs.Prelude.{ℕ, ◌-◌, ◌<◌, ◌≡◌, ◌⊎◌, List, [], ◌∷◌, length, take, slice_get, Option, Some, None}
 use Rattle.pil_ast.specs.Term.{Namespace, space_at}
 use Rattle.pil_ast.specs.Holds.{lines}
 use Rattle.pil_lines.specs.Places.{ArePlaces}

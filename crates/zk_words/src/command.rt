@@ -1,7 +1,7 @@
 //! The words of the command line.
-ghost use Rattle.std.specs.Prelude.{◌≡◌, ◌⊎◌, ℕ, ◌+◌, ◌<◌, ◌≤◌, ◌^◌, List, [], ◌∷◌, IfSome, Some, codes, decimal, option_map};
+ghost use Rattle.std.specs.Prelude.{◌≡◌, ◌⊎◌, ℕ, ◌+◌, ◌<◌, ◌≤◌, ◌^◌, List, [], ◌∷◌, IfSome, Some, codes, decimal};
 ghost use Rattle.demo_program.specs.declared.kind.DemoKind.{DemoKind as Kind};
-ghost use Rattle.zk_words.specs.Words.{Command as Asked, asked, Reads, IsAnswer, texts, kind_word, IsNumber};
+ghost use Rattle.zk_words.specs.Words.{Command as Asked, Reads, IsAnswer, texts, kind_word, IsNumber};
 
 use demo_program::DemoKind;
 use gold::Profile;

@@ -1,4 +1,4 @@
-use Rattle.std.proofs.Common.{◌<◌, ◌≡◌, length, get_or, sym, ap, subst, ◌∙◌, arith, List}
+use Rattle.std.proofs.Common.{◌<◌, ◌≡◌, length, get_or, sym, ap, ◌∙◌, arith, List}
 use Rattle.std.proofs.lemmas.List.{length-map}
 use Rattle.pil_ast.specs.declared.tree.Space.{Space}
 use Rattle.pil_ast.specs.Tree.{namespace}
