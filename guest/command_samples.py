@@ -121,12 +121,27 @@ NO_COMMAND = (2, "the commands are run ELF INPUT STEPS, witness ELF INPUT TABLES
               "pil PILFILE TABLES, machine, machine wide and demo NUMBER KIND SIZE")
 
 
-def broken(line, instance, row):
-    return (1, f"line {line} does not hold in instance {instance} at row {row}")
+def broken(line, instance, row, text):
+    return (1, f"line {line} does not hold in instance {instance} at row {row}", text)
 
 
-def counted(line, left, right):
-    return (1, f"line {line} does not hold: the counts of a tuple are {left} on the left and on the right {right}")
+def counted(line, left, right, text):
+    return (1, f"line {line} does not hold: the counts of a tuple are {left} on the left and on the right {right}", text)
+
+
+# Lines as they are printed, behind their namespace.
+SUM = "in Fibonacci: (1 - Fibonacci.LAST) * (Fibonacci.b' - Fibonacci.a - Fibonacci.b) = 0;"
+FALLING = "in Fibonacci: {Fibonacci.a} is {Falling.v};"
+COUNTER = "in A: A.x' = A.x + 1;"
+SAME = "in A: {A.x} is {A.y};"
+MEMORY = ("in Main: Main.sel {536870912 + Main.rs1, 8 * Main.STEP + 1, 0, Main.alo, Main.ahi}"
+          " + Main.sel {536870912 + Main.rs2, 8 * Main.STEP + 2, 0, Main.slo, Main.shi}"
+          " + Main.ms {Main.w, 8 * Main.STEP + 3, 0, Main.olo, Main.ohi}"
+          " + (Main.sel * Main.st) {Main.w, 8 * Main.STEP + 4, 1, Main.mlo, Main.mhi}"
+          " + (Main.sel * Main.wr) {536870912 + Main.rd, 8 * Main.STEP + 5, 1, Main.vlo, Main.vhi}"
+          " + Init.SEL {Init.KEY, 0, 1, Init.LO, Init.HI} + Out.SEL {Out.KEY, 34359738368, 0, Out.lo, Out.hi}"
+          " is Mem.sel {Mem.key, Mem.time, Mem.wr, Mem.lo, Mem.hi};")
+PREVIOUS = "in Mem: (1 - Mem.LAST) * (Mem.plo' - Mem.lo) = 0;"
 
 
 def limit(steps):
@@ -140,10 +155,10 @@ def bad_tables(text, at):
 # Each call, its report, its status and what that says; or a file made of another, with a number set in it.
 CALLS = [
     ("pil fibonacci.pil fibonacci.tables", ["accepted", "eighth 21"], DONE),
-    ("pil fibonacci.pil wrong_sum.tables", ["broken line 4 instance 0 row 6"], broken(4, 0, 6)),
-    ("pil fibonacci.pil wrong_falling.tables", ["broken line 6 tuple 1 left 2 right 1"], counted(6, 2, 1)),
-    ("pil counter.pil counter.tables", ["broken line 1 instance 0 row 2"], broken(1, 0, 2)),
-    ("pil same.pil same.tables", ["broken line 1 tuple 5 left 2 right 1"], counted(1, 2, 1)),
+    ("pil fibonacci.pil wrong_sum.tables", ["broken line 4 instance 0 row 6"], broken(4, 0, 6, SUM)),
+    ("pil fibonacci.pil wrong_falling.tables", ["broken line 6 tuple 1 left 2 right 1"], counted(6, 2, 1, FALLING)),
+    ("pil counter.pil counter.tables", ["broken line 1 instance 0 row 2"], broken(1, 0, 2, COUNTER)),
+    ("pil same.pil same.tables", ["broken line 1 tuple 5 left 2 right 1"], counted(1, 2, 1, SAME)),
     ("pil within.pil within.tables", ["accepted"], DONE),
     ("pil unknown.pil counter.tables", ["bad pil UnknownName 34"], (7, "the constraint text is refused: the name isn't declared at 34")),
     ("pil counter.pil fibonacci.tables", ["bad tables BadAir 8"], bad_tables("no such number of airs, or no such air", 8)),
@@ -164,9 +179,9 @@ CALLS = [
     ("witness exit_seven.elf empty.input made.tables 3 0", halted(3, 7), DONE),
     ("check exit_seven.elf empty.input made.tables", accepted(7), DONE),
     (f"set made.tables {mem(LO, 40)} 8 forged.tables",),
-    ("check exit_seven.elf empty.input forged.tables", ["broken line 20 tuple 536870922,34359738368,0,7,0 left 1 right 0"], counted(20, 1, 0)),
+    ("check exit_seven.elf empty.input forged.tables", ["broken line 20 tuple 536870922,34359738368,0,7,0 left 1 right 0"], counted(20, 1, 0, MEMORY)),
     (f"set forged.tables {OUT} 8 forged.tables",),
-    ("check exit_seven.elf empty.input forged.tables", ["broken line 26 instance 0 row 40"], broken(26, 0, 40)),
+    ("check exit_seven.elf empty.input forged.tables", ["broken line 26 instance 0 row 40"], broken(26, 0, 40, PREVIOUS)),
     (f"set made.tables 60 {P} forged.tables",),
     ("check exit_seven.elf empty.input forged.tables", ["bad tables NotCanonical 60"], bad_tables("the value is no element of the field", 60)),
 ]
@@ -174,7 +189,7 @@ CALLS = [
 
 def printed(call, report=(), status=None):
     """A call as the program prints it."""
-    end = [f"status {status[0]}: {status[1]}"] if status else []
+    end = [f"status {status[0]}: {status[1]}", *status[2:]] if status else []
     return "".join(line + "\n" for line in [f"$ {call}", *report, *end])
 
 

@@ -1,5 +1,5 @@
 //! Runs the calls that stand on its standard input, each on a line, over real files, and prints each behind a `$`, its
-//! report, and its status with what that says.
+//! report, and its status with what that says, a broken line with its text.
 //!
 //! A line `set FILE AT NUMBER MADE` is no call: it makes the file MADE of FILE, with the number in place of the eight
 //! bytes at AT, the low byte first.
@@ -11,7 +11,7 @@ use std::fs;
 use std::io::{self, ErrorKind};
 use std::sync::Wait;
 use std::thread::Threads;
-use zk_top::{NoGate, top};
+use zk_top::{NoGate, broken_text, top};
 
 fn words(alloc: Global, line: &str) -> Result<Vec<String>, AllocError> {
     let mut words = Vec::new(alloc);
@@ -37,7 +37,11 @@ fn set(rt: &HostRuntime, file: &str, at: &str, value: &str, made: &str) -> io::R
     fs::write(rt, made, bytes.as_slice())
 }
 
-// Prints the report of the call, and its status.
+fn text(bytes: &[u8]) -> &str {
+    str::from_utf8(bytes).unwrap_or("?")
+}
+
+// Prints the report of the call, its status, and the broken line, if there is one.
 fn call(
     rt: &HostRuntime,
     threads: &(impl Threads + Wait + Sync),
@@ -45,7 +49,11 @@ fn call(
 ) -> io::Result<()> {
     let mut host = OsHost::new(rt.alloc(), rt);
     let status = top(threads, rt.alloc(), words, &mut host, &NoGate);
-    println!(rt; "status {}: {status}", status.code())
+    println!(rt; "status {}: {status}", status.code())?;
+    if let Some(line) = broken_text(rt.alloc(), &mut host, words, &status) {
+        println!(rt; "in {}: {}", text(&line.space), text(&line.text))?;
+    }
+    Ok(())
 }
 
 fn main(rt: HostRuntime) -> io::Result<()> {
