@@ -71,16 +71,13 @@ fn most_kept<C: Columns>(pil: &Pil, columns: &C) -> u64
     most
 }
 
-/// How many instances there are of all namespaces.
-fn all_instances<C: Columns>(pil: &Pil, columns: &C) -> u64
+/// How many instances there are of the first namespaces, of which a checker has no more.
+fn checked_instances<C: Columns>(pil: &Pil, columns: &C) -> u64
     requires { Fits (namespaces pil.now) (C.values columns.now) }
 {
     let mut all = 0u64;
-    for number in 0..pil.spaces.len() {
-        let space = number as u32;
-        if (space as usize) < pil.spaces.len() {
-            all = all.saturating_add(columns.instances(space) as u64);
-        }
+    for space in 0..pil.spaces.len().min(MOST_SPACES) {
+        all = all.saturating_add(columns.instances(space as u32) as u64);
     }
     all
 }
@@ -100,6 +97,6 @@ pub fn suits_checker<C: Columns>(pil: &Pil, columns: &C) -> bool
     requires { Fits (namespaces pil.now) (C.values columns.now) }
 {
     pil.spaces.len() <= MOST_SPACES
-        && all_instances(pil, columns).saturating_mul(all_items(pil)) <= MOST_LOOKS
+        && checked_instances(pil, columns).saturating_mul(all_items(pil)) <= MOST_LOOKS
         && most_kept(pil, columns) <= MOST_KEPT
 }
