@@ -33,7 +33,7 @@ pub before-other : (x u : List ℕ) → ComesBefore u x → bytes_eq x u ≡ fal
 before-other x u e = sym (is_eq-slice_cmp x u) ∙ ap is_eq (turned x u e)
 
 -- what comes before x comes before all that isn't less than x
-before-through : (u x y : List ℕ) (o : Ordering) → slice_cmp nat_cmp y x ≡ o → is_lt o ≡ false → ComesBefore u x → ComesBefore u y
+pub before-through : (u x y : List ℕ) (o : Ordering) → slice_cmp nat_cmp y x ≡ o → is_lt o ≡ false → ComesBefore u x → ComesBefore u y
 before-through u x y Less e h b = absurd (true≢false h)
 before-through u x y Equal e h b = alike_right nat_list_cmp_total y x u e ∙ b
 before-through u x y Greater e h b = nat_list_cmp_total.trans u x y b (nat_list_cmp_total.antisymm x y ∙ ap ordering_reverse e)

@@ -1,7 +1,6 @@
 pub mod Times
 pub mod Least
 pub mod Sorted
-pub mod Places
 pub mod Sent
 pub mod InText
 pub mod Run

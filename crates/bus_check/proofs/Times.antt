@@ -1,9 +1,9 @@
 -- The tuples that vectors hold.
-use Rattle.std.proofs.Common.{ℕ, ◌<◌, ◌≡◌, ◌≢◌, Bool, true, false, not, List, length, get_or, sym, ap, ◌∙◌, refl}
+use Rattle.std.proofs.Common.{ℕ, ◌≡◌, ◌≢◌, Bool, true, false, not, List, length, sym, ap, ◌∙◌, refl}
 use Rattle.std.specs.List.Sorted.{IsPermutation}
 use Rattle.std.specs.Str.{bytes_eq}
 use Rattle.std.specs.Global.{Vec}
-use Rattle.std.proofs.lemmas.List.{get_or-map, length-map}
+use Rattle.std.proofs.lemmas.List.{length-map}
 use Rattle.std.proofs.lemmas.List.Sorted.{IsPermutation-map}
 use Rattle.std.proofs.lemmas.Slice.Eq.{bytes_eq-Decides}
 use Rattle.std.proofs.lemmas.Bool.{true≢false}
@@ -14,10 +14,6 @@ use Rattle.bus_check.specs.Bus.{numbers}
 -- vectors in another order
 pub times-sorted : (xs ys : List (Vec ℕ)) → IsPermutation xs ys → (t : List ℕ) → times t (numbers ys) ≡ times t (numbers xs)
 times-sorted xs ys h t = sym (often_from_permutation (numbers xs) (numbers ys) (IsPermutation-map _ xs ys h) t)
-
--- what the vector at a place holds
-pub numbers-at : (vs : List (Vec ℕ)) (i : ℕ) (v : Vec ℕ) (d : List ℕ) → i < length vs → v ≡ get_or vs i v → get_or (numbers vs) i d ≡ v.items
-numbers-at vs i v d l e = get_or-map (λ v. v.items) vs i v d l ∙ ap (λ v. v.items) (sym e)
 
 pub numbers-long : (vs : List (Vec ℕ)) → length (numbers vs) ≡ length vs
 numbers-long vs = length-map vs (λ v. v.items)

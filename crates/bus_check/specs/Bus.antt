@@ -10,6 +10,8 @@ use Rattle.pil_ast.specs.Holds.{times, selected, tuple}
 use Rattle.pil_ast.specs.Broken.{ComesBefore, DiffersFirst}
 use Rattle.row_check.specs.declared.broken.Broken.{Broken}
 use Rattle.row_check.specs.declared.broken.Broken.TheVariants.{At, Counts}
+use Rattle.bus_check.specs.declared.arrays.Kept.{Kept}
+use Rattle.bus_check.specs.declared.arrays.Kept.TheVariants.{One, Two, Three, Four, Five, Six, Seven, Eight, Mixed}
 use Rattle.pil_ast.specs.Sound.{IsTerm, IsSelector}
 
 -- the line is an `in` or an `is`
@@ -33,6 +35,18 @@ IsBusOf ns _ = ⊥
 -- what the vectors hold
 abbrev pub numbers : List (Vec ℕ) → List (List ℕ)
 numbers vs = map (λ v. v.items) vs
+
+-- the tuples that are kept
+abbrev pub held : Kept → List (List ℕ)
+held (One arrays) = arrays.items
+held (Two arrays) = arrays.items
+held (Three arrays) = arrays.items
+held (Four arrays) = arrays.items
+held (Five arrays) = arrays.items
+held (Six arrays) = arrays.items
+held (Seven arrays) = arrays.items
+held (Eight arrays) = arrays.items
+held (Mixed vectors) = numbers vectors.items
 
 -- the tuples ascend, compared number by number; one that stands several times stays so
 abbrev pub Ascend : List (List ℕ) → Type 0

@@ -2,6 +2,7 @@
 //! which of all lines is the first broken one.
 #![tactic(auto)]
 
+mod arrays;
 mod buses;
 mod laws;
 mod lines;

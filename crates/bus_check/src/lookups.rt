@@ -67,7 +67,7 @@ fn stands_at<C: Columns>(
 {
     match row_tuple(alloc, pil, columns, left, instance, row, inters)? {
         None => Ok(true),
-        Some(tuple) => Ok(right.has(&tuple)),
+        Some(tuple) => Ok(right.has(tuple.as_slice())),
     }
 }
 

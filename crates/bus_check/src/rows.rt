@@ -117,7 +117,7 @@ fn push_row<C: Columns>(
     ensures sent { OnOk result (tuples.new ≡ tuples.old ++ row_sent (namespaces pil.now) (C.values columns.now) (list_of list.now) instance row) }
 {
     match row_tuple(alloc, pil, columns, list, instance, row, inters)? {
-        Some(values) => tuples.push(values),
+        Some(values) => tuples.push(alloc, values.as_slice()),
         None => Ok(()),
     }
 }

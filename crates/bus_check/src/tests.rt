@@ -239,3 +239,28 @@ fn equal_counts(rt: HostRuntime) -> Result<(), Fail> {
     assert!(rt; first_of_is(rt.alloc(), &cells)?.is_none());
     Ok(())
 }
+
+// These tuples, in order.
+fn sorted(alloc: Global, tuples: &[&[u64]]) -> Result<TupleList, AllocError> {
+    let mut list = TupleList::new(alloc);
+    for tuple in tuples {
+        list.push(alloc, *tuple)?;
+    }
+    list.sort();
+    Ok(list)
+}
+
+#[test]
+fn widths(rt: HostRuntime) -> Result<(), Fail> {
+    let alloc = rt.alloc();
+    // One width, and then one more.
+    let mut list = sorted(alloc, &[&[5, 1, 2], &[4, 9, 9], &[5, 1, 1]])?;
+    assert_eq!(rt; list.len(), 3);
+    assert_eq!(rt; list.get(1), Some([5, 1, 1].as_slice()));
+    list.append(alloc, sorted(alloc, &[&[5, 1], &[4, 9, 9]])?)?;
+    list.sort();
+    assert_eq!(rt; list.len(), 5);
+    assert_eq!(rt; list.get(2), Some([5, 1].as_slice()));
+    assert_eq!(rt; list.get(5), None);
+    Ok(())
+}

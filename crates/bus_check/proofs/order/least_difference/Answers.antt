@@ -1,40 +1,50 @@
-use Rattle.std.proofs.Common.{◌≡◌, ◌≤◌, ℕ, List, [], Bool, true, false, Option, Some, None, cond, Bor, length, get_or, slice_get, refl, sym, ap, subst, ◌∙◌, is_lt, nat_cmp, MatchOption}
+use Rattle.std.proofs.Common.{ℕ, List, ◌≡◌, [], sym, ap, subst, ◌∙◌, cond, is_lt, nat_cmp, arith}
 use Rattle.std.specs.Cmp.Lexicographic.{slice_cmp}
-use Rattle.std.specs.Global.{Vec}
-use Rattle.std.specs.Option.{option_copied}
-use Rattle.pil_ast.specs.Holds.{times}
-use Rattle.bus_check.specs.Bus.{numbers, Ascend, IsLeast, PartAt}
+use Rattle.bus_check.specs.Bus.{held, IsLeast}
 use Rattle.bus_check.proofs.Least.{part-end, part-left, part-right, part-lesser}
-use Rattle.bus_check.proofs.Places.{tuple-past, tuple-inside, tuple-at}
 use Rattle.bus_check.proofs.order.least_difference.Goals as goal
 
--- the left list ends, and the answer is what the right one has there
-right-left : (vs ws : List (Vec ℕ)) (n : ℕ) (r : Option (Bor (Vec ℕ))) → PartAt (numbers vs) (numbers ws) n → Ascend (numbers vs) → Ascend (numbers ws) → length (numbers vs) ≤ n → option_copied r ≡ slice_get ws n → MatchOption r ((t : List ℕ) → times t (numbers vs) ≡ times t (numbers ws)) (λ t. IsLeast (numbers vs) (numbers ws) t.now.items)
-right-left vs ws n None p up down l e = part-end (numbers vs) (numbers ws) n p l (tuple-past ws n e)
-right-left vs ws n (Some v) p up down l e =
-    subst (IsLeast (numbers vs) (numbers ws)) (tuple-at ws n v.now [] e) (part-right (numbers vs) (numbers ws) n [] p up down l (tuple-inside ws n v.now e))
+abbrev lesser-of : List ℕ → List ℕ → List ℕ
+lesser-of x y = cond (is_lt (slice_cmp nat_cmp x y)) x y
 
-lesser-of : (vs ws : List (Vec ℕ)) (n : ℕ) (v w : Vec ℕ) → PartAt (numbers vs) (numbers ws) n → Ascend (numbers vs) → Ascend (numbers ws) → Some v ≡ slice_get vs n → Some w ≡ slice_get ws n → IsLeast (numbers vs) (numbers ws) (cond (is_lt (slice_cmp nat_cmp v.items w.items)) v.items w.items)
-lesser-of vs ws n v w p up down e f =
-    subst (λ x. IsLeast (numbers vs) (numbers ws) (cond (is_lt (slice_cmp nat_cmp v.items x)) v.items x)) (tuple-at ws n w [] f)
-    (subst (λ x. IsLeast (numbers vs) (numbers ws) (cond (is_lt (slice_cmp nat_cmp x (get_or (numbers ws) n []))) x (get_or (numbers ws) n []))) (tuple-at vs n v [] e)
-    (part-lesser (numbers vs) (numbers ws) n [] p up down (tuple-inside vs n v e) (tuple-inside ws n w f)))
+lessers : (x y v w : List ℕ) → x ≡ v → y ≡ w → lesser-of x y ≡ lesser-of v w
+lessers x y v w e f = ap (λ z. lesser-of z y) e ∙ ap (lesser-of v) f
 
-items-cond : (b : Bool) (v w : Vec ℕ) → cond b v.items w.items ≡ (cond b v w).items
-items-cond b v w = elim b as (λ b. cond b v.items w.items ≡ (cond b v w).items) [ true ↦ refl | false ↦ refl ]
+pub returns-then-place-len-2 : goal.returns-then-place-len-2
+returns-then-place-len-2 c =
+    let xs = held c.args.left.now in
+    let ys = held c.args.right.now in
+    let a = c.len.ensures in
+    let b = c.len-then-place-len.ensures in
+    let l = c.if-place-len.true in
+    let m = c.if-place-len-2.true in
+    subst (IsLeast xs ys) (lessers _ _ _ _ (sym c.at.ensures) (sym c.at-then-place-len-2.ensures) ∙ sym c.lesser.ensures)
+    (part-lesser xs ys c.parting-place.result [] c.parting-place.ensures c.requires.left c.requires.right (omega arith) (omega arith))
 
-pub returns-in-None : goal.returns-in-None
-returns-in-None c =
-    right-left c.args.left.now c.args.right.now c.parting-place.result c.at-in-None.result c.parting-place.ensures c.requires.left c.requires.right
-    (tuple-past c.args.left.now c.parting-place.result c.in-None.ensures) c.at-in-None.ensures
+pub returns-else-place-len-2 : goal.returns-else-place-len-2
+returns-else-place-len-2 c =
+    let xs = held c.args.left.now in
+    let ys = held c.args.right.now in
+    let a = c.len.ensures in
+    let b = c.len-then-place-len.ensures in
+    let l = c.if-place-len.true in
+    let m = c.if-place-len-2.false in
+    subst (IsLeast xs ys) (sym c.at-else-place-len-2.ensures) (part-left xs ys c.parting-place.result [] c.parting-place.ensures c.requires.left c.requires.right (omega arith) (omega arith))
 
-pub returns-in-None-at : goal.returns-in-None-at
-returns-in-None-at c =
-    subst (IsLeast (numbers c.args.left.now) (numbers c.args.right.now)) (tuple-at c.args.left.now c.parting-place.result c.in-Some.tuple.now [] c.in-Some.ensures)
-    (part-left (numbers c.args.left.now) (numbers c.args.right.now) c.parting-place.result [] c.parting-place.ensures c.requires.left c.requires.right
-    (tuple-inside c.args.left.now c.parting-place.result c.in-Some.tuple.now c.in-Some.ensures) (tuple-past c.args.right.now c.parting-place.result c.in-None-at.ensures))
+pub returns-then-place-len-3 : goal.returns-then-place-len-3
+returns-then-place-len-3 c =
+    let xs = held c.args.left.now in
+    let ys = held c.args.right.now in
+    let a = c.len.ensures in
+    let b = c.len-else-place-len.ensures in
+    let l = c.if-place-len.false in
+    let m = c.if-place-len-3.true in
+    subst (IsLeast xs ys) (sym c.at-then-place-len-3.ensures) (part-right xs ys c.parting-place.result [] c.parting-place.ensures c.requires.left c.requires.right (omega arith) (omega arith))
 
-pub returns-in-Some-at : goal.returns-in-Some-at
-returns-in-Some-at c =
-    subst (IsLeast (numbers c.args.left.now) (numbers c.args.right.now)) (items-cond _ c.in-Some.tuple.now c.in-Some-at.other.now ∙ ap (λ v. v.items) (sym c.lesser.ensures))
-    (lesser-of c.args.left.now c.args.right.now c.parting-place.result c.in-Some.tuple.now c.in-Some-at.other.now c.parting-place.ensures c.requires.left c.requires.right c.in-Some.ensures c.in-Some-at.ensures)
+pub returns-else-place-len-3 : goal.returns-else-place-len-3
+returns-else-place-len-3 c =
+    let a = c.len.ensures in
+    let b = c.len-else-place-len.ensures in
+    let l = c.if-place-len.false in
+    let m = c.if-place-len-3.false in
+    part-end (held c.args.left.now) (held c.args.right.now) c.parting-place.result c.parting-place.ensures (omega arith) (omega arith)

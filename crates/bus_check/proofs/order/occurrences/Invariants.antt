@@ -1,7 +1,7 @@
 use Rattle.std.proofs.Common.{◌≡◌, take}
 use Rattle.pil_ast.specs.Holds.{times}
-use Rattle.bus_check.specs.Bus.{numbers}
+use Rattle.bus_check.specs.Bus.{held}
 use Rattle.bus_check.proofs.order.occurrences.Given as goal
 
-abbrev pub invariant-loop-other : goal.invariant-loop-other
-invariant-loop-other l = l.count ≡ times l.tuple (take l.other-index (numbers l.tuples))
+abbrev pub invariant-loop-place : goal.invariant-loop-place
+invariant-loop-place l = l.count ≡ times l.tuple (take l.place (held l.tuples))

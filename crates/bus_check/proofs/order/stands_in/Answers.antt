@@ -1,10 +1,29 @@
-use Rattle.std.proofs.Common.{sym, subst, IsTrue, ◌↔◌, ◌≢◌, Bool}
-use Rattle.pil_ast.specs.Holds.{times}
-use Rattle.bus_check.specs.Bus.{numbers}
-use Rattle.bus_check.proofs.Sorted.{searched}
+use Rattle.std.proofs.Common.{◌≡◌, ◌<◌, [], length, refl, sym, ◌∙◌, ap, arith}
+use Rattle.std.proofs.lemmas.Bool.{true≢false}
+use Rattle.std.specs.Ordering.{nat_cmp}
+use Rattle.std.specs.Cmp.Lexicographic.{slice_cmp}
+use Rattle.bus_check.specs.Bus.{held}
+use Rattle.bus_check.proofs.Sorted.{search-up, search-down, search-found, search-missed}
 use Rattle.bus_check.proofs.order.stands_in.Goals as goal
 
+pub loop-low-preserved-in-Less : goal.loop-low-preserved-in-Less
+loop-low-preserved-in-Less c =
+    search-up (held c.args.tuples.now) c.args.tuple.now c.loop-low.low c.loop-low.high _ [] c.requires c.loop-low.invariant (let l = c.loop-low-test.true in omega arith)
+    (ap (λ t. slice_cmp nat_cmp t c.args.tuple.now) (sym c.at.ensures) ∙ sym c.cmp.ensures ∙ c.in-Less.is)
+
+pub returns-in-Equal : goal.returns-in-Equal
+returns-in-Equal c = (
+  λ t. search-found (held c.args.tuples.now) c.args.tuple.now _ [] (let l = c.loop-low-test.true in let i = c.loop-low.invariant.inside in omega arith) (ap (λ t. slice_cmp nat_cmp t c.args.tuple.now) (sym c.at.ensures) ∙ sym c.cmp.ensures ∙ c.in-Equal.is),
+  λ n. refl,
+)
+
+pub loop-low-preserved : goal.loop-low-preserved
+loop-low-preserved c =
+    search-down (held c.args.tuples.now) c.args.tuple.now c.loop-low.low c.loop-low.high _ [] c.requires c.loop-low.invariant (let l = c.loop-low-test.true in let i = c.loop-low.invariant.inside in omega arith)
+    (ap (λ t. slice_cmp nat_cmp t c.args.tuple.now) (sym c.at.ensures) ∙ sym c.cmp.ensures ∙ c.in-Greater.is)
+
 pub returns : goal.returns
-returns c =
-    let P : Bool → Type 0 = λ b. IsTrue b ↔ (times c.args.tuple.now.items (numbers c.args.tuples.now) ≢ 0) in
-    subst P (sym c.is_ok.ensures.value) (searched c.args.tuples.now c.args.tuple.now.items c.binary_search.result c.binary_search.ensures.bound c.requires c.binary_search.ensures.position)
+returns c = (
+  λ t. absurd (true≢false (sym t)),
+  λ n. absurd (n (search-missed (held c.args.tuples.now) c.args.tuple.now c.loop-low.low c.loop-low.high c.loop-low.invariant (let l = c.loop-low-test.false in omega arith))),
+)
