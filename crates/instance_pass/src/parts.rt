@@ -17,25 +17,6 @@ pub struct Part {
     pub tuples: TupleList,
 }
 
-/// Puts what a row of a block sends at the end.
-#[inline]
-fn push_row(
-    alloc: Global,
-    sender: &Sender,
-    blocks: &[Block],
-    lane: usize,
-    tuples: &mut TupleList,
-) -> Result<(), AllocError>
-    requires inside { IsSenderIn (length blocks.now) sender.now }
-    requires lane { lane < 64 }
-    ensures { OnOk result (tuples.new ≡ tuples.old ++ sent_by (at_lane blocks.now lane) sender.now) }
-{
-    if sender.selects(blocks, lane) {
-        tuples.push(sender.tuple(alloc, blocks, lane)?)?;
-    }
-    Ok(())
-}
-
 /// Puts what the first rows of a block send at the end.
 pub fn push_rows(
     alloc: Global,
@@ -48,8 +29,12 @@ pub fn push_rows(
     requires count { count ≤ 64 }
     ensures { OnOk result (tuples.new ≡ tuples.old ++ flat_map (λ j. sent_by (at_lane blocks.now j) sender.now) (range_with_len 0 count)) }
 {
+    let mut tuple = Vec::with_capacity(alloc, sender.terms.len())?;
     for lane in 0..count {
-        push_row(alloc, sender, blocks, lane, tuples)?;
+        if sender.selects(blocks, lane) {
+            sender.tuple(blocks, lane, &mut tuple)?;
+            tuples.push(alloc, tuple.as_slice())?;
+        }
     }
     Ok(())
 }

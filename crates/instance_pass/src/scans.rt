@@ -99,8 +99,9 @@ fn stands_in(
     if is_covered(sender, table, blocks, lane) || !sender.selects(blocks, lane) {
         return Ok(true);
     }
-    let tuple = sender.tuple(alloc, blocks, lane)?;
-    Ok(table.has(&tuple))
+    let mut tuple = Vec::new(alloc);
+    sender.tuple(blocks, lane, &mut tuple)?;
+    Ok(table.has(tuple.as_slice()))
 }
 
 /// The first row of a block whose tuple doesn't stand in the table.

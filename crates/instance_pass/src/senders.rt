@@ -1,11 +1,11 @@
 //! What a row sends.
-ghost use Rattle.std.specs.Prelude.{◌≡◌, ◌<◌, ◌==◌, not, map, length, IfOk};
+ghost use Rattle.std.specs.Prelude.{◌≡◌, ◌<◌, ◌==◌, not, map, length, OnOk};
 ghost use Rattle.pil_program.specs.Blocks.{at_lane};
 ghost use Rattle.instance_pass.specs.Senders.{IsSenderIn};
 
 use pil_program::Block;
 use sqlite_items::Items;
-use std::alloc::{AllocError, Global};
+use std::alloc::AllocError;
 
 /// The tuples of the selected rows of a namespace, as steps of its program.
 #[derive(Drop)]
@@ -38,21 +38,21 @@ impl Sender {
         value_at(blocks, self.sel, lane) != 0
     }
 
-    /// The tuple of a row of a block.
+    /// Puts the tuple of a row of a block in place of what a vector holds.
     pub fn tuple(
         &self,
-        alloc: Global,
         blocks: &[Block],
         lane: usize,
-    ) -> Result<Vec<u64>, AllocError>
+        tuple: &mut Vec<u64>,
+    ) -> Result<(), AllocError>
         requires inside { IsSenderIn (length blocks.now) self.now }
         requires lane { lane < 64 }
-        ensures { IfOk result (λ t. t.items ≡ map (at_lane blocks.now lane) self.now.terms) }
+        ensures { OnOk result (tuple.new.items ≡ map (at_lane blocks.now lane) self.now.terms) }
     {
-        let mut values = Vec::with_capacity(alloc, self.terms.len())?;
+        tuple.clear();
         for step in self.terms.as_slice() {
-            values.push(value_at(blocks, *step, lane))?;
+            tuple.push(value_at(blocks, *step, lane))?;
         }
-        Ok(values)
+        Ok(())
     }
 }

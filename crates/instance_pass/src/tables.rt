@@ -103,8 +103,8 @@ impl Table {
     }
 
     /// Whether a tuple stands in the table.
-    pub fn has(&self, tuple: &Vec<u64>) -> bool
-        ensures { IsTrue result ↔ (times tuple.now.items self.now ≢ 0) }
+    pub fn has(&self, tuple: &[u64]) -> bool
+        ensures { IsTrue result ↔ (times tuple.now self.now ≢ 0) }
     {
         self.tuples.has(tuple)
     }
