@@ -1,5 +1,5 @@
 -- The sides of an `is` and the parts that have their tuples.
-use Rattle.std.proofs.Common.{ℕ, ◌+◌, ◌≡◌, ◌≢◌, List, [], ◌∷◌, ◌++◌, Option, Some, None, length, map, slice_get, flat_map, option_map, refl, ◌∙◌, ap, subst, MatchOption}
+use Rattle.std.proofs.Common.{ℕ, ◌+◌, ◌≤◌, ◌≡◌, ◌≢◌, List, [], ◌∷◌, ◌++◌, Option, Some, None, length, map, slice_get, flat_map, option_map, refl, ◌∙◌, ap, subst, arith, MatchOption}
 use Rattle.std.specs.List.{range_with_len}
 use Rattle.std.proofs.lemmas.Option.{slice_get-map, get_or_from_slice_get}
 use Rattle.pil_ast.specs.Term.{Tuples, Line, constant, commit, inter, published, identity, lookup, bus, Namespace}
@@ -36,16 +36,17 @@ not-bus ns nodes n (Equal t j k) (identity s a b) c h ne = tt
 not-bus ns nodes n (Among x k) (lookup a b) c h ne = tt
 not-bus ns nodes n check l c h ne = absurd h
 
-tuples-found : (parts : List Part) (k : ℕ) (p : Part) → slice_get parts k ≡ Some p → tuples_at parts k ≡ p.tuples
+pub tuples-found : (parts : List Part) (k : ℕ) (p : Part) → slice_get parts k ≡ Some p → tuples_at parts k ≡ p.tuples
 tuples-found parts k p is = get_or_from_slice_get (map (λ p. p.tuples) parts) k p.tuples [] (slice_get-map (λ p. p.tuples) parts k ∙ ap (option_map (λ p. p.tuples)) is)
 
-pub side-all : (ns : List Namespace) (nodes : ℕ → List Node) (c : Columns) (parts : List Part) → ((j : ℕ) (p : Part) (a : Tuples) → slice_get parts j ≡ Some p → IsSenderOf ns (nodes a.space) a p.sender → p.tuples ≡ sent ns c a)
-    → (k : ℕ) (ls : List Tuples) → HaveParts ns nodes parts k ls → side_of parts k (length ls) ≡ all_sent ns c ls
+pub side-all : (ns : List Namespace) (nodes : ℕ → List Node) (c : Columns) (parts : List Part) (k : ℕ) (ls : List Tuples)
+    → ((j : ℕ) (p : Part) (a : Tuples) → k ≤ j → slice_get parts j ≡ Some p → IsSenderOf ns (nodes a.space) a p.sender → p.tuples ≡ sent ns c a)
+    → HaveParts ns nodes parts k ls → side_of parts k (length ls) ≡ all_sent ns c ls
 unfolding all_sent
-side-all ns nodes c parts all k [] h = refl
-side-all ns nodes c parts all k (a ∷ as') h =
-    ap (λ ts. ts ++ flat_map (tuples_at parts) (range_with_len (k + 1) (length as'))) (tuples-found parts k h.0.0 h.0.1 ∙ all k h.0.0 a h.0.1 h.0.2)
-    ∙ ap (λ ts. sent ns c a ++ ts) (side-all ns nodes c parts all (k + 1) as' h.1)
+side-all ns nodes c parts k [] all h = refl
+side-all ns nodes c parts k (a ∷ as') all h =
+    ap (λ ts. ts ++ flat_map (tuples_at parts) (range_with_len (k + 1) (length as'))) (tuples-found parts k h.0.0 h.0.1 ∙ all k h.0.0 a (omega arith) h.0.1 h.0.2)
+    ∙ ap (λ ts. sent ns c a ++ ts) (side-all ns nodes c parts (k + 1) as' (λ j p b l. all j p b (omega arith)) h.1)
 
 pub compared : (ns : List Namespace) (c : Columns) (found : Option Broken) (k : ℕ) (left right : List (List ℕ)) (ls rs : List Tuples) → left ≡ all_sent ns c ls → right ≡ all_sent ns c rs
     → MatchOption found (AsOften left right) (λ b. DiffersBy k left right b) → MatchOption found (AgreesIfBus ns c (bus ls rs)) (λ b. IsBreakOf ns c (bus ls rs) k b)

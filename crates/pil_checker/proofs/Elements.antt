@@ -68,6 +68,10 @@ pub ok-both : {X E : Type 0} (r : Result X E) (A B : X → Type 0) (P : Type 0) 
 ok-both (Ok x) A B P f a b = f x a b
 ok-both (Err e) A B P f a b = tt
 
+pub ok-always : {X E : Type 0} (r : Result X E) (P : Type 0) → P → OnOk r P
+ok-always (Ok x) P h = h
+ok-always (Err e) P h = tt
+
 -- what holds of each element and of one more
 pub more-found : {X : Type 0} (P : ℕ → X → Type 0) (old new : List X) (x : X) → new ≡ old ++ x ∷ [] → ((k : ℕ) (y : X) → slice_get old k ≡ Some y → P k y) → P (length old) x → (k : ℕ) (y : X) → slice_get new k ≡ Some y → P k y
 more-found P old new x e each one k y is = elim (get-push old x y k (ap (λ xs. slice_get xs k) (sym e) ∙ is)) [

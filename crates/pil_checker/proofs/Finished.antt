@@ -15,12 +15,12 @@ use Rattle.instance_pass.specs.declared.checks.Check.TheVariants.{Equal, Among, 
 use Rattle.instance_pass.specs.Checks.{IsTabled, home}
 use Rattle.pil_checker.specs.declared.checker.Spot.{Spot}
 use Rattle.pil_checker.specs.declared.checker.Checker.{Checker}
-use Rattle.pil_checker.specs.Standing.{IsBuilt, StandsFor, AreAllAdded, HaveAll, AgreesIfBus, AllUpTo, IsFound, added, counted, sent_upto, limit_of}
+use Rattle.pil_checker.specs.Standing.{IsBuilt, StandsFor, AreAllAdded, HaveFrom, AgreesIfBus, AllUpTo, IsFound, added, counted, sent_upto, limit_of}
 use Rattle.pil_checker.proofs.Rows.{rows-all}
 
 -- the parts have what their lists send
-pub have-all : (ns : List Namespace) (c : Columns) (k : Checker) → IsBuilt ns k → StandsFor ns c k → AreAllAdded ns c k → HaveAll ns c k.plan
-have-all ns c k built stands all j p a is of =
+pub have-all : (ns : List Namespace) (c : Columns) (k : Checker) → IsBuilt ns k → StandsFor ns c k → AreAllAdded ns c k → HaveFrom ns c k.plan 0
+have-all ns c k built stands all m x j p a low at first is of =
     let w = built.planned.known j p is in
     let inside : a.space < length ns = let e = of.space in let f = w.1.space in let l = w.2 in omega arith in
     stands.parts j p a is of ∙ rows-all ns c a (added k a.space) (c.rows a.space) (all a.space inside) refl

@@ -5,6 +5,7 @@ pub mod Lined
 pub mod Texts
 pub mod Compared
 pub mod Spanned
+pub mod Given
 pub mod Added
 pub mod Looked
 pub mod Stood

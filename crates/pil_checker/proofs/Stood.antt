@@ -57,13 +57,14 @@ plan-is old new a b d e =
     ∙ ap (λ x. record new { programs = old.programs; checks = old.checks; spans = x }) d
     ∙ ap (λ x. record new { programs = old.programs; checks = old.checks; spans = old.spans; tables = x }) e
 
-planned-each : (ns : List Namespace) (old new : Plan) → AtEach KeepsSender old.parts.items new.parts.items → IsPlanOf ns old → IsPlanOf ns (with_parts old new)
+pub planned-each : (ns : List Namespace) (old new : Plan) → AtEach KeepsSender old.parts.items new.parts.items → IsPlanOf ns old → IsPlanOf ns (with_parts old new)
 planned-each ns old new each h = record {
   programs = h.programs;
   checks_long = h.checks_long;
   checks = h.checks;
   spans_long = h.spans_long;
   spans = λ k x is. span-each ns (nodes_at old.programs.items) old.parts.items new.parts.items x (item_at (lines ns) k) each (h.spans k x is);
+  apart = record { inside = λ k x is. (let a = h.apart.inside k x is in let e = each.long in omega arith); apart = h.apart.apart };
   known = known-each ns (nodes_at old.programs.items) old.parts.items new.parts.items each h.known;
 }
 

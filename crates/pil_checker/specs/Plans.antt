@@ -59,6 +59,11 @@ AreKnown ns nodes parts = (j : ℕ) (p : Part) → slice_get parts j ≡ Some p 
 abbrev pub AreIdle : List Part → Type 0
 AreIdle parts = (j : ℕ) (p : Part) → slice_get parts j ≡ Some p → p.tuples ≡ []
 
+-- the spans are among n parts, and each ends before those of later lines begin
+pub record AreApart (spans : List Span) (n : ℕ) : Type 0 where
+  pub inside : (k : ℕ) (x : Span) → slice_get spans k ≡ Some x → x.end ≤ n
+  pub apart : (j k : ℕ) (x y : Span) → j < k → slice_get spans j ≡ Some x → slice_get spans k ≡ Some y → x.end ≤ y.first
+
 -- a plan has the first n lines of a text
 pub record IsPlanUpTo (ns : List Namespace) (plan : Plan) (n : ℕ) : Type 0 where
   pub programs : ArePrograms ns plan.programs.items
@@ -66,6 +71,7 @@ pub record IsPlanUpTo (ns : List Namespace) (plan : Plan) (n : ℕ) : Type 0 whe
   pub checks : (k : ℕ) (check : Check) → slice_get plan.checks.items k ≡ Some check → IsCheckOf ns (nodes_at plan.programs.items) (length plan.tables.items) check (item_at (lines ns) k)
   pub spans_long : length plan.spans.items ≡ n
   pub spans : (k : ℕ) (x : Span) → slice_get plan.spans.items k ≡ Some x → IsSpanOf ns (nodes_at plan.programs.items) plan.parts.items x (item_at (lines ns) k)
+  pub apart : AreApart plan.spans.items (length plan.parts.items)
   pub known : AreKnown ns (nodes_at plan.programs.items) plan.parts.items
 
 -- a plan has all lines of a text

@@ -9,9 +9,10 @@ use Rattle.instance_pass.specs.declared.parts.Part.{Part}
 use Rattle.instance_pass.specs.declared.passes.Found.{Found}
 use Rattle.instance_pass.specs.Senders.{IsSenderOf}
 use Rattle.instance_pass.specs.Checks.{home}
-use Rattle.instance_pass.specs.Passes.{AreTabled}
+use Rattle.instance_pass.specs.Passes.{AreTabled, AtEach}
 use Rattle.pil_checker.specs.declared.checker.Spot.{Spot}
 use Rattle.pil_checker.specs.declared.checker.Checker.{Checker}
+use Rattle.pil_checker.specs.declared.lines.Span.{Span}
 use Rattle.pil_checker.specs.declared.plans.Plan.{Plan}
 use Rattle.pil_checker.specs.Programs.{nodes_at}
 use Rattle.pil_checker.specs.Plans.{IsPlanOf}
@@ -67,9 +68,14 @@ tuples_at parts j = slice_index_or (map (λ p. p.tuples) parts) j []
 abbrev pub side_of : List Part → ℕ → ℕ → List (List ℕ)
 side_of parts first n = flat_map (tuples_at parts) (range_with_len first n)
 
--- each part has what its list sends
-abbrev pub HaveAll : List Namespace → Columns → Plan → Type 0
-HaveAll ns c plan = (j : ℕ) (p : Part) (a : Tuples) → slice_get plan.parts.items j ≡ Some p → IsSenderOf ns (nodes_at plan.programs.items a.space) a p.sender → p.tuples ≡ sent ns c a
+-- the parts keep their lists, and from number n on their tuples
+pub record GiveBefore (n : ℕ) (old new : List Part) : Type 0 where
+  pub senders : AtEach (λ p q. q.sender ≡ p.sender) old new
+  pub rest : (k : ℕ) → n ≤ k → slice_get new k ≡ slice_get old k
+
+-- from the span of line n on each part has what its list sends
+abbrev pub HaveFrom : List Namespace → Columns → Plan → ℕ → Type 0
+HaveFrom ns c plan n = (k : ℕ) (x : Span) (j : ℕ) (p : Part) (a : Tuples) → n ≤ k → slice_get plan.spans.items k ≡ Some x → x.first ≤ j → slice_get plan.parts.items j ≡ Some p → IsSenderOf ns (nodes_at plan.programs.items a.space) a p.sender → p.tuples ≡ sent ns c a
 
 -- what the line says if it is an `is`
 abbrev pub AgreesIfBus : List Namespace → Columns → Line → Type 0

@@ -171,18 +171,24 @@ impl Checker {
     }
 
     /// The first broken line, where all instances were added.
-    pub fn finish(&self, alloc: Global, pil: &Pil) -> Result<Option<Broken>, AllocError>
+    pub fn finish(self, alloc: Global, pil: &Pil) -> Result<Option<Broken>, AllocError>
         requires sound { IsSound (namespaces pil.now) }
-        requires built { IsBuilt (namespaces pil.now) self.now }
-        ensures { IfOk result (λ found. (c : Values) → StandsFor (namespaces pil.now) c self.now → AreAllAdded (namespaces pil.now) c self.now → MatchOption found (AllHold (namespaces pil.now) c) (λ broken. IsFirstBroken (namespaces pil.now) c broken)) }
+        requires built { IsBuilt (namespaces pil.now) self }
+        ensures { IfOk result (λ found. (c : Values) → StandsFor (namespaces pil.now) c self → AreAllAdded (namespaces pil.now) c self → MatchOption found (AllHold (namespaces pil.now) c) (λ broken. IsFirstBroken (namespaces pil.now) c broken)) }
     {
-        for line in 0..self.limit() {
-            match difference_of(alloc, pil, &self.plan, line)? {
+        let limit = self.limit();
+        let Checker {
+            mut plan,
+            found,
+            ..
+        } = self;
+        for line in 0..limit {
+            match difference_of(alloc, pil, &mut plan, line)? {
                 Some(broken) => return Ok(Some(broken)),
                 None => {}
             }
         }
-        match &self.found {
+        match found {
             Some(spot) => Ok(Some(Broken::At {
                 line: spot.line as u32 + 1,
                 instance: spot.instance,

@@ -1,5 +1,5 @@
 //! The lines of a text as checks and parts.
-ghost use Rattle.std.specs.Prelude.{◌≡◌, ◌+◌, ℕ, length, map, All, IfOk, OnOk, MatchOption};
+ghost use Rattle.std.specs.Prelude.{◌≡◌, ◌+◌, ◌≤◌, ℕ, length, map, All, IfOk, OnOk, MatchOption};
 ghost use Rattle.pil_ast.specs.Tree.{term, tuples as list_of, line as line_of, namespaces};
 ghost use Rattle.pil_ast.specs.Term.{identity, lookup};
 ghost use Rattle.pil_ast.specs.Columns.{Fits};
@@ -187,6 +187,7 @@ pub fn place_span(
     ensures placing { OnOk result (IsPlacing (namespaces pil.now) programs.old.items programs.new.items) }
     ensures extends { OnOk result (Extends parts.old.items parts.new.items) }
     ensures span { IfOk result (λ span. IsSpanOf (namespaces pil.now) (nodes_at programs.new.items) parts.new.items span (line_of item.now)) }
+    ensures within { IfOk result (λ span. (length parts.old.items ≤ span.first) × (span.end ≤ length parts.new.items)) }
     ensures known { OnOk result (AreKnown (namespaces pil.now) (nodes_at programs.new.items) parts.new.items) }
     ensures idle { OnOk result (AreIdle parts.new.items) }
 {

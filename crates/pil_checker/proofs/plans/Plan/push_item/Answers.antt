@@ -7,6 +7,7 @@ use Rattle.instance_pass.specs.Checks.{IsCheckOf, IsTabled}
 use Rattle.pil_checker.specs.Programs.{nodes_at}
 use Rattle.pil_checker.specs.Plans.{IsSpanOf}
 use Rattle.pil_checker.proofs.Elements.{more-found}
+use Rattle.pil_checker.proofs.Given.{apart-more}
 use Rattle.pil_checker.proofs.Grown.{grows-both}
 use Rattle.pil_checker.proofs.Lined.{known-grown, check-kept, tabled-kept, span-kept}
 use Rattle.pil_checker.proofs.plans.Plan.push_item.Goals as goal
@@ -40,6 +41,7 @@ returns-clause-planned g c =
       spans = more-found (λ k x. IsSpanOf ns (nodes_at p2) parts x (item_at (lines ns) k)) spans c.push-2.new.self.items c.in_ok-span.span c.in_ok-push-2.ensures.items
           (λ k x is. span-kept ns p0 p2 c.args.self.now.parts.items parts x (item_at (lines ns) k) both e.extends (h.spans k x is))
           (subst (IsSpanOf ns (nodes_at p2) parts c.in_ok-span.span) (sym at') e.span);
+      apart = apart-more spans c.push-2.new.self.items c.in_ok-span.span (length c.args.self.now.parts.items) (length parts) c.in_ok-push-2.ensures.items h.apart e.within.0 e.extends.longer e.within.1;
       known = e.known;
     }
 
