@@ -1,4 +1,4 @@
-use Rattle.std.proofs.Common.{◌≤◌, ◌-◌, length}
+use Rattle.std.proofs.Common.{◌-◌}
 use Rattle.bus_check.specs.Bus.{held}
 use Rattle.bus_check.proofs.Sorted.{IsSearched}
 use Rattle.bus_check.proofs.order.stands_in.Given as goal

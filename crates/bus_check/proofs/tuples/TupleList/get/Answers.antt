@@ -1,4 +1,4 @@
-use Rattle.std.proofs.Common.{ℕ, ◌≢◌, [], List, ◌∙◌, sym, subst, arith}
+use Rattle.std.proofs.Common.{ℕ, ◌≢◌, [], List, sym, subst, arith}
 use Rattle.pil_ast.specs.Holds.{times}
 use Rattle.pil_laws.proofs.Times.{times_somewhere}
 use Rattle.bus_check.specs.Bus.{held}
