@@ -217,7 +217,7 @@ class Forgery:
             with open(self.path + end, "wb") as file:
                 file.write(content)
         words = [self.zkw, command, self.path + ".elf", self.path + ".input", self.path, *more]
-        return subprocess.run(words, stdout=subprocess.PIPE).stdout.decode()
+        return subprocess.run(words, stdout=subprocess.PIPE, stderr=subprocess.DEVNULL).stdout.decode()
 
     def save(self):
         """Writes the tables, instances in order."""

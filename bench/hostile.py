@@ -42,6 +42,8 @@ def run(program, *words, memory=None):
     child = os.fork()
     if child == 0:
         os.dup2(write, 1)
+        # the sentences for people
+        os.dup2(os.open(os.devnull, os.O_WRONLY), 2)
         if memory:
             resource.setrlimit(resource.RLIMIT_AS, (memory, memory))
         os.execv(program, [program, *words])
