@@ -1,6 +1,6 @@
 #!/usr/bin/env python3
-"""Steps per second of `zkw run` on a loop of ten million instructions, beside the plain Rust machine
-of plain_run.rs, which decodes at each step where zkw decodes once, in one run on one machine. Best of five.
+"""Steps per second of `zkw run` on a loop of a hundred million instructions, beside the plain Rust machine of
+plain_run.rs, which like zkw decodes each word once, but keeps no trace, in one run on one machine. Best of five.
 
 Usage: steps.py ZKW [PLAIN_RUN]; with one argument plain_run.rs is built into a temporary folder.
 """
@@ -12,12 +12,12 @@ import tempfile
 import time
 
 HERE = os.path.dirname(os.path.abspath(__file__))
-ROUNDS = 1_000_000
+ROUNDS = 10_000_000
 # x5 counts down, x6 is an address in free memory; ALU, a load, a store and a branch in each round
 LOOP = [
     0x000F4337,  # lui  x6, 0xf4
-    0x000F42B7,  # lui  x5, 0xf4          x5 = 999424
-    0x24028293,  # addi x5, x5, 576       x5 = 1000000
+    0x009892B7,  # lui  x5, 0x989         x5 = 9998336
+    0x68028293,  # addi x5, x5, 1664      x5 = 10000000
     0x00033383,  # loop: ld x7, 0(x6)
     0x00538433,  # add  x8, x7, x5
     0x0083C4B3,  # xor  x9, x7, x8
@@ -66,7 +66,7 @@ def main():
         yardstick = best([plain] + words, folder)
         print(f"zkw run      {STEPS / proved / 1e6:6.1f} million steps a second")
         print(f"plain Rust   {STEPS / yardstick / 1e6:6.1f} million steps a second")
-        print(f"ratio        {proved / yardstick:6.2f} times the plain machine's time")
+        print(f"ratio        {yardstick / proved:6.2f} of the plain machine's speed (mark: 0.7)")
 
 
 main()
