@@ -2,7 +2,7 @@
 use Rattle.std.specs.Prelude.{ℕ, ◌<◌, ◌≤◌, ◌≡◌, ◌==◌, ◌++◌, true, cond, List, [], length, map, filter, flat_map, slice_get, Some, All}
 use Rattle.std.specs.List.{range_with_len}
 use Rattle.std.specs.List.Sorted.{IsPermutation}
-use Rattle.pil_ast.specs.Term.{Tuples, Line, lookup, bus, Namespace, item_at}
+use Rattle.pil_ast.specs.Term.{Tuples, Line, bus, Namespace, item_at}
 use Rattle.pil_ast.specs.Columns.{Columns}
 use Rattle.pil_ast.specs.Holds.{AsOften, row_sent, lines}
 use Rattle.pil_ast.specs.Filled.{IsMadeOf}

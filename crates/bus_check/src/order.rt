@@ -1,5 +1,5 @@
 //! The order of tuples: they are compared number by number from the first.
-ghost use Rattle.std.specs.Prelude.{◌≡◌, ◌≢◌, ◌<◌, ◌↔◌, ◌∷◌, [], List, ℕ, true, cond, IsTrue, MatchOption};
+ghost use Rattle.std.specs.Prelude.{◌≡◌, ◌≢◌, ◌<◌, ◌≤◌, ◌↔◌, ◌∷◌, [], List, ℕ, cond, length, slice_index_or, IsTrue, MatchOption};
 ghost use Rattle.std.specs.Ordering.{nat_cmp, is_lt};
 ghost use Rattle.std.specs.Cmp.Lexicographic.{slice_cmp};
 ghost use Rattle.pil_ast.specs.Holds.{times};
@@ -47,7 +47,7 @@ pub fn occurrences(tuples: &Kept, tuple: &[u64]) -> u64
 
 /// Whether a tuple is one number alone.
 fn is_alone(tuple: &[u64], value: u64) -> bool
-    ensures { result ≡ true → tuple.now ≡ value ∷ [] }
+    ensures { IsTrue result ↔ (tuple.now ≡ value ∷ []) }
 {
     match tuple {
         [only] => *only == value,
@@ -57,7 +57,10 @@ fn is_alone(tuple: &[u64], value: u64) -> bool
 
 /// How many of the numbers 0, 1, 2 and so on a list begins with, each as a tuple of its own.
 pub fn counted(tuples: &Kept) -> u64
-    ensures { (v : ℕ) → v < result → times (v ∷ []) (held tuples.now) ≢ 0 }
+    ensures stand { (v : ℕ) → v < result → times (v ∷ []) (held tuples.now) ≢ 0 }
+    ensures begins { (v : ℕ) → v < result → slice_index_or (held tuples.now) v [] ≡ v ∷ [] }
+    ensures within { result ≤ length (held tuples.now) }
+    ensures most { result < length (held tuples.now) → slice_index_or (held tuples.now) result [] ≢ result ∷ [] }
 {
     for place in 0..tuples.len() {
         if !is_alone(tuples.at(place), place as u64) {

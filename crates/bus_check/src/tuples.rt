@@ -1,5 +1,5 @@
 //! Lists of tuples.
-ghost use Rattle.std.specs.Prelude.{◌≡◌, ◌≢◌, ◌<◌, ◌↔◌, ◌++◌, ◌∷◌, List, ℕ, [], IsTrue, OnOk, MatchOption, length};
+ghost use Rattle.std.specs.Prelude.{◌≡◌, ◌≢◌, ◌<◌, ◌≤◌, ◌↔◌, ◌++◌, ◌∷◌, List, ℕ, [], IsTrue, OnOk, MatchOption, length, slice_index_or};
 ghost use Rattle.pil_ast.specs.Holds.{times};
 ghost use Rattle.bus_check.specs.Bus.{held, Ascend, IsLeast};
 
@@ -43,14 +43,17 @@ impl TupleList {
 
     /// How many tuples there are.
     #[inline]
-    pub fn len(&self) -> usize {
+    pub fn len(&self) -> usize
+        ensures { result ≡ length self.now }
+    {
         self.kept.len()
     }
 
     /// The tuple at a place, if there is one.
     #[inline]
     pub fn get(&self, place: usize) -> Option<&[u64]>
-        ensures { MatchOption result (Unit {0}) (λ t. times t.now self.now ≢ 0) }
+        ensures there { MatchOption result (length self.now ≤ place) (λ t. (place < length self.now) × (t.now ≡ slice_index_or self.now place [])) }
+        ensures stands { MatchOption result (Unit {0}) (λ t. times t.now self.now ≢ 0) }
     {
         if place < self.kept.len() {
             Some(self.kept.at(place))
@@ -73,10 +76,12 @@ impl TupleList {
         self.kept.append(alloc, other.kept)
     }
 
-    /// A number below which each number stands in the list as a tuple of its own: all of them, where the
-    /// list is 0, 1, 2 and so on.
+    /// How many of the numbers 0, 1, 2 and so on the list begins with, each as a tuple of its own.
     pub fn counted(&self) -> u64
-        ensures { (v : ℕ) → v < result → times (v ∷ []) self.now ≢ 0 }
+        ensures stand { (v : ℕ) → v < result → times (v ∷ []) self.now ≢ 0 }
+        ensures begins { (v : ℕ) → v < result → slice_index_or self.now v [] ≡ v ∷ [] }
+        ensures within { result ≤ length self.now }
+        ensures most { result < length self.now → slice_index_or self.now result [] ≢ result ∷ [] }
     {
         counted(&self.kept)
     }

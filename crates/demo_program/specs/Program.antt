@@ -7,6 +7,7 @@ use Rattle.rv_word.specs.declared.instr.OpNo.TheVariants.{Add, Sub, Lt, Ltu, Xor
 use Rattle.rv_word.specs.declared.instr.OpNo.TheVariants as ops
 use Rattle.rv_word.specs.declared.instr.Instr.{Instr}
 use Rattle.rv_word.specs.declared.instr.Instr.TheVariants.{Lui, Load, Store, OpImm, Op, Ecall}
+use Rattle.rv_model.specs.declared.machine.TheConstants.{CALL_REGISTER, EXIT_CALL, EXIT_REGISTER}
 use Rattle.demo_program.specs.declared.kind.DemoKind.{DemoKind}
 use Rattle.demo_program.specs.declared.kind.DemoKind.TheVariants as kinds
 use Rattle.demo_program.specs.Draws.{draw}
@@ -57,7 +58,7 @@ put_out j = Store Sd 5 (6 + j) (pos (8 * j))
 
 -- exit with 0
 unfoldable pub leave : List Instr
-leave = OpImm Add 17 0 (pos 93) false ∷ OpImm Add 10 0 (pos 0) false ∷ Ecall ∷ []
+leave = OpImm Add CALL_REGISTER 0 (pos EXIT_CALL) false ∷ OpImm Add EXIT_REGISTER 0 (pos 0) false ∷ Ecall ∷ []
 
 unfoldable pub instructions : ℕ → DemoKind → ℕ → List Instr
 instructions number kind size =

@@ -11,6 +11,7 @@ ghost use Rattle.demo_program.specs.Demo.{demo_file, IsSize};
 use crate::DemoKind;
 use crate::draws::Draws;
 use crate::elf::tiny;
+use rv_model::{CALL_REGISTER, EXIT_CALL, EXIT_REGISTER};
 use rv_word::{Instr, Kind, OpNo, Reg};
 use std::alloc::{AllocError, Global};
 
@@ -184,8 +185,8 @@ fn push_output(program: &mut Vec<Instr>) -> Result<(), AllocError>
 fn push_leave(program: &mut Vec<Instr>) -> Result<(), AllocError>
     ensures { OnOk result (program.new.items ≡ program.old.items ++ leave) }
 {
-    program.push(set(Reg::new(17), 93))?;
-    program.push(set(Reg::new(10), 0))?;
+    program.push(set(Reg::new(CALL_REGISTER as u8), EXIT_CALL as i64))?;
+    program.push(set(Reg::new(EXIT_REGISTER as u8), 0))?;
     program.push(Instr::Ecall)?;
     Ok(())
 }

@@ -7,7 +7,7 @@ ghost use Rattle.instance_pass.specs.Checks.{Asks, IsCheckIn, HoldsBelow, FailsA
 
 use crate::checks::Check;
 use crate::senders::{Sender, value_at};
-use crate::tables::{Table, next_code};
+use crate::tables::{Table, beside, next_code};
 use pil_program::Block;
 use std::alloc::{AllocError, Global};
 
@@ -57,6 +57,19 @@ fn is_tuple(sender: &Sender, tuple: &[u64], blocks: &[Block], lane: usize) -> bo
     true
 }
 
+/// Whether the tuple of a row is found at once in the table under a code.
+#[inline]
+fn is_coded(sender: &Sender, table: &Table, blocks: &[Block], lane: usize, code: u64) -> bool
+    requires inside { IsSenderIn (length blocks.now) sender.now }
+    requires lane { lane < 64 }
+    ensures { result ≡ true → StandsIn table.now sender.now (at_lane blocks.now lane) }
+{
+    match table.likely(code) {
+        Some(tuple) => is_tuple(sender, tuple, blocks, lane),
+        None => false,
+    }
+}
+
 /// Whether the tuple of a row is found at once in the table.
 #[inline]
 fn is_likely(sender: &Sender, table: &Table, blocks: &[Block], lane: usize) -> bool
@@ -64,10 +77,9 @@ fn is_likely(sender: &Sender, table: &Table, blocks: &[Block], lane: usize) -> b
     requires lane { lane < 64 }
     ensures { result ≡ true → StandsIn table.now sender.now (at_lane blocks.now lane) }
 {
-    match table.likely(code_at(sender, blocks, lane)) {
-        Some(tuple) => is_tuple(sender, tuple, blocks, lane),
-        None => false,
-    }
+    let code = code_at(sender, blocks, lane);
+    is_coded(sender, table, blocks, lane, code)
+        || is_coded(sender, table, blocks, lane, beside(code))
 }
 
 /// Whether the tuple of a row is known at once to stand in the table.

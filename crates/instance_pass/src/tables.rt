@@ -12,35 +12,55 @@ pub struct Table {
     tuples: TupleList,
     /// Each number below it stands there as a tuple of its own.
     bound: u64,
-    /// By a remainder of a tuple's code the place of the last such tuple; nothing rests on it.
-    places: Vec<usize>,
+    /// By a slot of its code, or the one beside, the place of a tuple; nothing rests on it.
+    places: Vec<u32>,
 }
+
+/// What a slot holds that no tuple has.
+const NO_PLACE: u32 = u32::MAX;
+
+/// For how many tuples there are slots of their own.
+const MOST_PLACES: usize = 1 << 24;
 
 /// The code of a tuple goes on with one more number.
 #[inline]
-pub fn next_code(code: u64, value: u64) -> u64 {
+pub(crate) fn next_code(code: u64, value: u64) -> u64 {
     (code ^ value).wrapping_mul(0x9e37_79b9_7f4a_7c15)
 }
 
-/// The slot of a code among so many.
+/// A code of the slot beside a code's own.
+#[inline]
+pub(crate) fn beside(code: u64) -> u64 {
+    code ^ (1 << 24)
+}
+
+/// The slot of a code among so many, a power of two.
 #[inline]
 fn slot(code: u64, slots: usize) -> usize {
-    if slots == 0 {
-        return 0;
+    (code >> 24) as usize & slots.wrapping_sub(1)
+}
+
+/// Puts a place into the slot of a code if it is free, else into the one beside.
+fn put_place(places: &mut Vec<u32>, code: u64, place: u32) {
+    let own = slot(code, places.len());
+    let other = slot(beside(code), places.len());
+    let chosen = if places.get(own) == Some(&NO_PLACE) {
+        own
+    } else {
+        other
+    };
+    if let Some(kept) = places.get_mut(chosen) {
+        *kept = place;
     }
-    ((code >> 24) % slots as u64) as usize
 }
 
 /// A place for each code that a tuple has.
-fn places_of(alloc: Global, tuples: &TupleList) -> Result<Vec<usize>, AllocError> {
-    let slots = 4 * tuples.len().min(1 << 24) + 1;
-    let mut places = vec![in alloc; 0usize; slots]?;
-    for place in 0..tuples.len() {
+fn places_of(alloc: Global, tuples: &TupleList) -> Result<Vec<u32>, AllocError> {
+    let slots = (4 * tuples.len().min(MOST_PLACES)).next_power_of_two();
+    let mut places = vec![in alloc; NO_PLACE; slots]?;
+    for place in 0..tuples.len().min(NO_PLACE as usize) {
         if let Some(tuple) = tuples.get(place) {
-            let slot = slot(code_of(tuple), places.len());
-            if slot < places.len() {
-                places[slot] = place;
-            }
+            put_place(&mut places, code_of(tuple), place as u32);
         }
     }
     Ok(places)
@@ -85,18 +105,18 @@ impl Table {
 
     /// A tuple of the table that may be the one with this code.
     #[inline]
-    pub fn likely(&self, code: u64) -> Option<&[u64]>
+    pub(crate) fn likely(&self, code: u64) -> Option<&[u64]>
         ensures { MatchOption result (Unit {0}) (λ t. times t.now self.now ≢ 0) }
     {
         match self.places.get(slot(code, self.places.len())) {
-            Some(place) => self.tuples.get(*place),
+            Some(place) => self.tuples.get(*place as usize),
             None => None,
         }
     }
 
     /// Whether a number that is told at once stands in the table as a tuple of its own.
     #[inline]
-    pub fn covers(&self, value: u64) -> bool
+    pub(crate) fn covers(&self, value: u64) -> bool
         ensures { result ≡ true → times (value ∷ []) self.now ≢ 0 }
     {
         value < self.bound

@@ -7,9 +7,10 @@ use Rattle.std.specs.List.{flat_map, range_with_len}
 use Rattle.rv_model.specs.Image.{Img}
 use Rattle.rv_model.specs.State.{State, Next, step}
 use Rattle.rv_model.specs.Run.{state_at, step_at, IsNext, MeetsLimit}
+use Rattle.rv_model.specs.declared.answer.StepAnswer.{StepAnswer}
 use Rattle.rv_model.specs.declared.answer.StepAnswer.TheVariants as answers
 use Rattle.min_trace.specs.Record.{instr_at, old_at, olds_between}
-use Rattle.rv_emu.specs.Emulator.{old_here, Leads, IsAfter}
+use Rattle.rv_emu.specs.Emulator.{old_here, Leads, IsAfter, Stopped}
 
 old_here_is : (image : Img) (j : ℕ) → old_here image (state_at image j) ≡ old_at image j
 unfolding old_here old_at instr_at
@@ -57,3 +58,10 @@ after_same image from steps s t old new a same kept = record { on = a.on; state 
 
 pub answer_here : (image : Img) (j : ℕ) (s : State) → s ≡ state_at image j → step_at image j ≡ step image s
 answer_here image j s is = ap (step image) (sym is)
+
+-- a step that doesn't lead on leaves all as it was, and stops there
+pub stops : (image : Img) (from steps most : ℕ) (s t : State) (answer : StepAnswer) (old new : List ℕ) → (answer ≡ answers.Next → ⊥) → steps < most → IsAfter image from steps s old → Leads (step image s) (old_here image s) answer s t old new
+    → IsAfter image from steps t new × Stopped answer image from steps most
+stops image from steps most s t answers.Next old new other below a leads = absurd (other refl)
+stops image from steps most s t answers.Halt old new other below a leads = (after_same image from steps s t old new a leads.1 leads.2, (answer_here image (from + steps) s a.state ∙ leads.0, below))
+stops image from steps most s t (answers.Fault f) old new other below a leads = (after_same image from steps s t old new a leads.1 leads.2, (answer_here image (from + steps) s a.state ∙ leads.0, below))

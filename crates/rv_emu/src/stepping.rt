@@ -1,5 +1,7 @@
 //! Steps within a chunk.
-ghost use Rattle.std.specs.Prelude.{◌≡◌, ◌+◌, ◌≤◌, ◌<◌, ℕ, IfOk, OnErr};
+ghost use Rattle.std.specs.Prelude.{◌≡◌, ◌+◌, ◌≤◌, ◌<◌, ℕ, Some, IfOk, OnErr, MatchOption};
+ghost use Rattle.rv_model.specs.Image.{fetch};
+ghost use Rattle.rv_model.specs.Code.{instr_of};
 ghost use Rattle.rv_model.specs.State.{executed, step};
 ghost use Rattle.rv_model.specs.Cpu.{access};
 ghost use Rattle.mem_pages.specs.Memory.{word_of};
@@ -78,20 +80,49 @@ fn fetch_and_execute(
     }
 }
 
+// A step at a word that was decoded.
 #[inline(always)]
-fn advance(
+fn execute_decoded(
     image: &Image,
+    instr: &Instr,
     cpu: &mut Cpu,
     memory: &mut Memory,
     olds: &mut Vec<u64>,
 ) -> Result<StepAnswer, AllocError>
+    requires { instr_of (fetch image.now cpu.old.pc) ≡ Some instr.now }
     ensures ok { IfOk result (λ answer. Leads (step image.now (state_of cpu.old memory.old)) (old_here image.now (state_of cpu.old memory.old)) answer (state_of cpu.old memory.old) (state_of cpu.new memory.new) olds.old.items olds.new.items) }
     ensures err { OnErr result ((state_of cpu.new memory.new ≡ state_of cpu.old memory.old) × (olds.new.items ≡ olds.old.items)) }
 {
-    match image.decoded(cpu.pc) {
-        Some(instr) => execute(instr, cpu, memory, olds),
-        None => fetch_and_execute(image, cpu, memory, olds),
+    execute(instr, cpu, memory, olds)
+}
+
+// As go_on, but it stops before a word that was not decoded too, and then answers None. It is compiled as a function of
+// its own, so that the run is as fast wherever it is called from.
+#[inline(never)]
+fn go_on_decoded(
+    image: &Image,
+    cpu: &mut Cpu,
+    memory: &mut Memory,
+    olds: &mut Vec<u64>,
+    steps: &mut u32,
+    most: u32,
+) -> Result<Option<StepAnswer>, AllocError>
+    requires { steps.old ≤ most }
+    ensures after { (from : ℕ) → IsAfter image.now from steps.old (state_of cpu.old memory.old) olds.old.items → IsAfter image.now from steps.new (state_of cpu.new memory.new) olds.new.items }
+    ensures few { steps.new ≤ most }
+    ensures more { steps.old ≤ steps.new }
+    ensures stopped { IfOk result (λ found. MatchOption found (steps.new < most) (λ answer. (from : ℕ) → IsAfter image.now from steps.old (state_of cpu.old memory.old) olds.old.items → Stopped answer image.now from steps.new most)) }
+{
+    while *steps < most {
+        let Some(instr) = image.decoded(cpu.pc) else {
+            return Ok(None);
+        };
+        match execute_decoded(image, instr, cpu, memory, olds)? {
+            StepAnswer::Next => *steps += 1,
+            answer => return Ok(Some(answer)),
+        }
     }
+    Ok(Some(StepAnswer::Next))
 }
 
 /// Goes on within a chunk of which `steps` were done, until `most` are done or a step doesn't lead on. What is answered
@@ -111,9 +142,12 @@ pub fn go_on(
     ensures stopped { IfOk result (λ answer. (from : ℕ) → IsAfter image.now from steps.old (state_of cpu.old memory.old) olds.old.items → Stopped answer image.now from steps.new most) }
 {
     while *steps < most {
-        match advance(image, cpu, memory, olds) {
-            Ok(StepAnswer::Next) => *steps += 1,
-            answer => return answer,
+        match go_on_decoded(image, cpu, memory, olds, steps, most)? {
+            Some(answer) => return Ok(answer),
+            None => match fetch_and_execute(image, cpu, memory, olds)? {
+                StepAnswer::Next => *steps += 1,
+                answer => return Ok(answer),
+            },
         }
     }
     Ok(StepAnswer::Next)

@@ -98,8 +98,22 @@ impl Part {
 
 impl Image {
     /// The instruction at a pc, where it was decoded: where there is none, the word may be an instruction still.
+    /// Most programs have one executable segment, so the first part is tried before the others are searched.
     #[inline(always)]
     pub fn decoded(&self, pc: u64) -> Option<&Instr>
+        ensures { IfSome result (λ i. instr_of (fetch self.now pc) ≡ Some i.now) }
+    {
+        if let Some(part) = self.parts.first() {
+            let found = part.instr(pc);
+            if found.is_some() {
+                return found;
+            }
+        }
+        self.decoded_behind(pc)
+    }
+
+    // The same, by a search of all parts.
+    fn decoded_behind(&self, pc: u64) -> Option<&Instr>
         ensures { IfSome result (λ i. instr_of (fetch self.now pc) ≡ Some i.now) }
     {
         let count = self.parts.partition_point(|part| part.start <= pc);

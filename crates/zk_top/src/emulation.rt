@@ -1,6 +1,7 @@
 //! A whole run, chunk by chunk.
 ghost use Rattle.rv_model.specs.Run.{end_within, Answers};
 
+use min_trace::STEPS_PER_CHUNK;
 use rv_emu::{Emu, Step};
 use rv_model::{Image, Ran, RunEnd};
 use std::alloc::Global;
@@ -21,7 +22,7 @@ pub fn emulate(alloc: Global, image: Image, limit: u32) -> Result<Ran, RunEnd>
             Ok(Step::Chunk(_)) => {}
             Ok(Step::Last(chunk, public)) => {
                 return Ok(Ran {
-                    steps: 1024 * chunk.number + chunk.steps,
+                    steps: STEPS_PER_CHUNK * chunk.number + chunk.steps,
                     public,
                 });
             }

@@ -1,7 +1,6 @@
-use Rattle.std.proofs.Common.{◌≢◌, ℕ, ◌<◌, [], ◌∷◌}
-use Rattle.pil_ast.specs.Holds.{times}
+use Rattle.std.proofs.Common.{◌≡◌, ℕ, ◌<◌, [], ◌∷◌, get_or}
 use Rattle.bus_check.specs.Bus.{held}
 use Rattle.bus_check.proofs.order.counted.Given as goal
 
 abbrev pub invariant-loop-place : goal.invariant-loop-place
-invariant-loop-place l = (v : ℕ) → v < l.place → times (v ∷ []) (held l.tuples) ≢ 0
+invariant-loop-place l = (v : ℕ) → v < l.place → get_or (held l.tuples) v [] ≡ v ∷ []
